@@ -1,7 +1,7 @@
 //! What the first page of `rr_node` shows.
 
-use rr_node::{Node, NodeEvent, Stance};
-use rr_types::Refusal;
+use rr_node::{Node, Stance};
+use rr_types::{NodeEvent, Refusal};
 use std::alloc::Global;
 
 /// Starts a node that is down. It is opening then: each device call of that is an event of its own.

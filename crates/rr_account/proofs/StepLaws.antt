@@ -6,19 +6,19 @@ use Rattle.std.proofs.lemmas.List.{append_assoc, append-nil, length-append, map-
 use Rattle.rr_node.specs.declared.event.Stance.{Stance}
 use Rattle.rr_types.specs.declared.message.Message.{Message}
 use Rattle.rr_types.specs.declared.refusal.Refusal.{Refusal}
-use Rattle.rr_types.specs.declared.input.Input.TheVariants as input
+use Rattle.rr_types.specs.declared.event.NodeEvent.{NodeEvent}
+use Rattle.rr_types.specs.Inputs.{happens_as, message_on}
 use Rattle.rr_model.specs.Sound.{IsDecidedList}
-use Rattle.rr_node.specs.declared.event.NodeEvent.{NodeEvent}
-use Rattle.rr_node.specs.declared.event.NodeEvent.TheVariants as node
 use Rattle.rr_node.specs.declared.event.Outcome as left
 use Rattle.rr_node.specs.declared.event.Outcome.TheVariants.{Quiet, Left, Replied, Opened}
 use Rattle.rr_node.specs.Seats.{Seat, Answer, seat_step, starve, seat_fails, starve_fails}
 use Rattle.rr_text.specs.declared.event.Event.{Event}
-use Rattle.rr_text.specs.declared.event.Event.TheVariants.{Submit, Hear, Suspect, Tick, Advance, Take, Device, Fail, Mark, Send, Ack, Snap, Crash, Restart}
+use Rattle.rr_text.specs.declared.event.Happening.{Happening}
+use Rattle.rr_text.specs.declared.event.Happening.TheVariants.{At, Fail, Crash}
 use Rattle.rr_text.specs.declared.report.ReportLine.{ReportLine}
 use Rattle.rr_text.specs.Reported.{Reported}
 use Rattle.rr_text.specs.Scheduled.{Scheduled, IsSchedule}
-use Rattle.rr_sim.specs.Clusters.{Cluster, new_cluster, note_of, with_answer, at_node, fail_at, event_step, Steps, LeadsSpelt, IsSpeltBehind}
+use Rattle.rr_sim.specs.Clusters.{Cluster, new_cluster, note_of, with_answer, at_node, fail_at, happens, event_step, Steps, LeadsSpelt, IsSpeltBehind}
 use Rattle.rr_sim.proofs.CleanLaws.{only_one}
 use Rattle.rr_sim.proofs.HeadlineLaws.{is_world_run, agrees}
 use Rattle.rr_sim.proofs.NodeLaws.{node_laws}
@@ -51,39 +51,27 @@ seated : (p at : ℕ) (c : Cluster) (f : Seat → Answer) (o : Option Seat) → 
 seated p at c f None = adds_none c
 seated p at c f (Some seat) = record { added = note_of p at (length c.wire) (f seat).0; grew = refl; one = note_one p at (length c.wire) (f seat).0 }
 
-at_node_adds : (p at : ℕ) (starved : Bool) (event : NodeEvent) (c : Cluster) → AddsOne c (at_node p at starved event c)
+at_node_adds : (p at : ℕ) (starved : Bool) (event : NodeEvent Message) (c : Cluster) → AddsOne c (at_node p at starved event c)
 at_node_adds p at starved event c = seated p at c (λ seat. if starved then starve event seat else seat_step event seat) (slice_get c.seats p)
 
 fail_at_adds : (p at : ℕ) (starved : Bool) (fill : List ℕ) (c : Cluster) → AddsOne c (fail_at p at starved fill c)
 fail_at_adds p at starved fill c = seated p at c (λ seat. if starved then starve_fails fill seat else seat_fails fill seat) (slice_get c.seats p)
 
-either : (b : Bool) (c x : Cluster) → AddsOne c x → AddsOne c (if b then x else c)
-either true c x adds = adds
-either false c x adds = adds_none c
-
-heard : (p at : ℕ) (starved : Bool) (c : Cluster) (o : Option Message) → AddsOne c (option_map_or (λ (m : Message). if m.to == p then at_node p at starved (node.Told (input.Hear m)) c else c) o c)
-heard p at starved c None = adds_none c
-heard p at starved c (Some m) = either (m.to == p) c (at_node p at starved (node.Told (input.Hear m)) c) (at_node_adds p at starved (node.Told (input.Hear m)) c)
-
 crash_adds : (c : Cluster) (f : Seat → List Seat) (o : Option Seat) → AddsOne c (option_map_or (λ (seat : Seat). record c { seats = f seat }) o c)
 crash_adds c f None = adds_none c
 crash_adds c f (Some seat) = record { added = []; grew = sym (append-nil c.lines); one = omega arith }
 
+happening : (p at : ℕ) (starved : Bool) (c : Cluster) (o : Option (NodeEvent Message)) → AddsOne c (option_map_or (λ e. at_node p at starved e c) o c)
+happening p at starved c None = adds_none c
+happening p at starved c (Some event) = at_node_adds p at starved event c
+
+happens_adds : (p at : ℕ) (starved : Bool) (what : Happening) (c : Cluster) → AddsOne c (happens p at starved what c)
+happens_adds p at starved (At event) c = happening p at starved c (happens_as (message_on c.wire p) event)
+happens_adds p at starved (Fail fill) c = fail_at_adds p at starved fill c
+happens_adds p at starved (Crash a b fill) c = crash_adds c _ (slice_get c.seats p)
+
 event_adds : (at : ℕ) (starved : Bool) (e : Event) (c : Cluster) → AddsOne c (event_step at starved e c)
-event_adds at starved (Submit p v) c = at_node_adds p at starved (node.Told (input.Submit v)) c
-event_adds at starved (Hear p k) c = heard p at starved c (slice_get c.wire k)
-event_adds at starved (Suspect p set) c = at_node_adds p at starved (node.Told (input.Suspect set)) c
-event_adds at starved (Tick p) c = at_node_adds p at starved (node.Told input.Tick) c
-event_adds at starved (Advance p) c = at_node_adds p at starved (node.Told input.Advance) c
-event_adds at starved (Take p) c = at_node_adds p at starved node.Take c
-event_adds at starved (Device p) c = at_node_adds p at starved node.Device c
-event_adds at starved (Fail p fill) c = fail_at_adds p at starved fill c
-event_adds at starved (Mark p) c = at_node_adds p at starved node.Mark c
-event_adds at starved (Send p) c = at_node_adds p at starved node.Send c
-event_adds at starved (Ack p) c = at_node_adds p at starved node.Acknowledge c
-event_adds at starved (Snap p) c = at_node_adds p at starved node.Snap c
-event_adds at starved (Crash p a b fill) c = crash_adds c _ (slice_get c.seats p)
-event_adds at starved (Restart p) c = at_node_adds p at starved node.Restart c
+event_adds at starved e c = happens_adds e.node at starved e.what c
 
 step_adds : (at : ℕ) (e : Event) (old new : Cluster) → Steps at e old new → AddsOne old new
 step_adds at e old new (inl is) = subst (λ (c : Cluster). AddsOne old c) (sym is) (event_adds at false e old)

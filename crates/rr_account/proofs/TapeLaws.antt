@@ -2,22 +2,22 @@
 use Rattle.std.proofs.Common.{ℕ, ◌≤◌, List, [], ◌∷◌, map, subst, sym}
 use Rattle.std.specs.List.{AllByRecursion}
 use Rattle.std.proofs.lemmas.List.{length-map}
-use Rattle.rr_text.specs.Scheduled.{IsEvent, IsSchedule}
+use Rattle.rr_text.specs.Scheduled.{IsInRange, IsEvent, IsSchedule}
 use Rattle.rr_tape.specs.declared.tape_event.TapeEvent.{TapeEvent}
-use Rattle.rr_tape.specs.declared.tape_event.TapeEvent.TheVariants.{Submit, Hear, Suspect, Tick, Advance, Take, Mark, Send, Ack}
-use Rattle.rr_tape.specs.Taped.{Taped, IsTapeEvent, IsTape}
+use Rattle.rr_tape.specs.declared.tape_event.Recorded.{Recorded}
+use Rattle.rr_tape.specs.declared.tape_event.Recorded.TheVariants.{Told, Take, Mark, Sent, Acked}
+use Rattle.rr_tape.specs.Taped.{Taped, of_node, IsRecorded, IsTapeEvent, IsTape}
 use Rattle.rr_audit.specs.Rows.{as_scheduled}
 
 event_is : (n : ℕ) (e : TapeEvent) → IsTapeEvent n e → IsEvent n (as_scheduled e)
-event_is n (Submit p c) h = record { node = h.0; fields = h.1 }
-event_is n (Hear p k) h = record { node = h.0; fields = h.1 }
-event_is n (Suspect p s) h = record { node = h.0; fields = h.1 }
-event_is n (Tick p) h = record { node = h; fields = tt }
-event_is n (Advance p) h = record { node = h; fields = tt }
-event_is n (Take p) h = record { node = h; fields = tt }
-event_is n (Mark p) h = record { node = h; fields = tt }
-event_is n (Send k m) h = record { node = h.1.from; fields = tt }
-event_is n (Ack p q r) h = record { node = h.0; fields = tt }
+event_is n e h = record { node = h.node; fields = by e.what h.what }
+  where
+    by : (what : Recorded) → IsRecorded n e.node what → IsInRange n (as_scheduled (of_node e.node what)).what
+    by (Told input) fits = fits
+    by Take fits = tt
+    by Mark fits = tt
+    by (Sent k m) fits = tt
+    by (Acked q r) fits = tt
 
 events_are : (n : ℕ) (es : List TapeEvent) → AllByRecursion (IsTapeEvent n) es → AllByRecursion (IsEvent n) (map as_scheduled es)
 events_are n [] all = all

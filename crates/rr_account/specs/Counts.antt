@@ -10,7 +10,11 @@ use Rattle.rr_types.specs.declared.refusal.Refusal.{Refusal}
 use Rattle.rr_types.specs.declared.refusal.Refusal.TheVariants as because
 use Rattle.rr_types.specs.Refusal.{number_of, name_of}
 use Rattle.rr_text.specs.declared.event.Event.{Event}
-use Rattle.rr_text.specs.declared.event.Event.TheVariants as event
+use Rattle.rr_text.specs.declared.event.Happening.{Happening}
+use Rattle.rr_text.specs.declared.event.Happening.TheVariants as happening
+use Rattle.rr_text.specs.Events.{kind_of}
+use Rattle.rr_types.specs.declared.input.Input.TheVariants as input
+use Rattle.rr_types.specs.declared.event.NodeEvent.TheVariants as node
 use Rattle.rr_text.specs.declared.report.ReportLine.{ReportLine}
 use Rattle.rr_text.specs.declared.report.ReportLine.TheVariants as line
 use Rattle.rr_text.specs.declared.kind.EventKind.{EventKind}
@@ -27,23 +31,27 @@ use Rattle.rr_account.specs.declared.event_sort.EventSort.{EventSort}
 use Rattle.rr_account.specs.declared.event_sort.EventSort.TheVariants as sort
 use Rattle.rr_account.specs.Accounts.{Accounted, lines_told}
 
+-- whether two kinds are one
+abbrev pub is_kind : EventKind → EventKind → Bool
+is_kind Submit Submit = true
+is_kind Hear Hear = true
+is_kind Suspect Suspect = true
+is_kind Tick Tick = true
+is_kind Advance Advance = true
+is_kind Take Take = true
+is_kind Device Device = true
+is_kind Fail Fail = true
+is_kind Mark Mark = true
+is_kind Send Send = true
+is_kind Ack Ack = true
+is_kind Snap Snap = true
+is_kind Crash Crash = true
+is_kind Restart Restart = true
+is_kind _ _ = false
+
 -- whether an event is of a kind
 abbrev pub is_event_kind : EventKind → Event → Bool
-is_event_kind Submit (event.Submit p c) = true
-is_event_kind Hear (event.Hear p k) = true
-is_event_kind Suspect (event.Suspect p set) = true
-is_event_kind Tick (event.Tick p) = true
-is_event_kind Advance (event.Advance p) = true
-is_event_kind Take (event.Take p) = true
-is_event_kind Device (event.Device p) = true
-is_event_kind Fail (event.Fail p fill) = true
-is_event_kind Mark (event.Mark p) = true
-is_event_kind Send (event.Send p) = true
-is_event_kind Ack (event.Ack p) = true
-is_event_kind Snap (event.Snap p) = true
-is_event_kind Crash (event.Crash p a b fill) = true
-is_event_kind Restart (event.Restart p) = true
-is_event_kind _ _ = false
+is_event_kind kind e = is_kind kind (kind_of e.what)
 
 -- all kinds of events
 abbrev pub event_kinds : List EventKind
@@ -147,11 +155,15 @@ abbrev pub is_made_and_fails : Reason → Bool
 is_made_and_fails (Refused because.Device) = true
 is_made_and_fails _ = false
 
+-- whether what happened was a device call that was made
+abbrev pub is_call : Happening → Reason → Bool
+is_call (happening.At node.Device) reason = is_made reason
+is_call (happening.Fail fill) reason = is_made_and_fails reason
+is_call _ reason = false
+
 -- whether an event made a device call
 abbrev pub makes_call : Event → Reason → Bool
-makes_call (event.Device p) reason = is_made reason
-makes_call (event.Fail p fill) reason = is_made_and_fails reason
-makes_call _ reason = false
+makes_call e reason = is_call e.what reason
 
 -- whether an event is one of those that are counted
 abbrev pub is_counted : EventSort → Event × Reason → Bool
@@ -172,10 +184,14 @@ is_done Done = true
 is_done (Refused e) = false
 is_done (Idle why) = false
 
--- the number of the message that an event heard; a hearing that was refused or came to nothing is none
+-- the number of the message that was heard, where it was; a hearing that was refused or came to nothing is none
+abbrev pub heard_by : Happening → Reason → Option ℕ
+heard_by (happening.At (node.Told (input.Hear k))) reason = if is_done reason then Some k else None
+heard_by _ reason = None
+
+-- the same of an event
 abbrev pub heard_in : Event → Reason → Option ℕ
-heard_in (event.Hear p k) reason = if is_done reason then Some k else None
-heard_in _ reason = None
+heard_in e reason = heard_by e.what reason
 
 -- the numbers of the messages that were heard in a run, one for each time
 abbrev pub hearings : Accounted → List ℕ

@@ -5,8 +5,8 @@ ghost use Rattle.rr_account.specs.Counts.{is_before_the_call, is_made, is_made_a
 
 use crate::kind::is_event_kind;
 use crate::reasons::Reason;
-use rr_text::{Event, EventKind};
-use rr_types::Refusal;
+use rr_text::{Event, EventKind, Happening};
+use rr_types::{NodeEvent, Refusal};
 
 /// Which events are counted.
 #[derive(Clone, Copy)]
@@ -50,9 +50,9 @@ fn is_made_and_fails(reason: Reason) -> bool
 fn makes_call(event: &Event, reason: Reason) -> bool
     ensures { result ≡ makes_call event.now reason }
 {
-    match event {
-        Event::Device { .. } => is_made(reason),
-        Event::Fail { .. } => is_made_and_fails(reason),
+    match &event.what {
+        Happening::At(NodeEvent::Device) => is_made(reason),
+        Happening::Fail(_) => is_made_and_fails(reason),
         _ => false,
     }
 }

@@ -5,16 +5,16 @@ ghost use Rattle.rr_account.specs.Counts.{heard_in, times, times_told, is_sent_k
 
 use crate::kind::is_message_kind;
 use crate::reasons::Reason;
-use rr_text::{Event, ReportLine};
-use rr_types::MessageKind;
+use rr_text::{Event, Happening, ReportLine};
+use rr_types::{Input, MessageKind, NodeEvent};
 use std::alloc::{AllocError, Global};
 
 // The number of the message that an event heard. A hearing that was refused or came to nothing is none.
 fn heard_in(event: &Event, reason: Reason) -> Option<u32>
     ensures { result ≡ heard_in event.now reason }
 {
-    match event {
-        Event::Hear { message, .. } => {
+    match &event.what {
+        Happening::At(NodeEvent::Told(Input::Hear(message))) => {
             if reason.is_done() {
                 Some(*message)
             } else {

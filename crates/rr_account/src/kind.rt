@@ -28,21 +28,21 @@ pub(crate) const EVENT_KINDS: [EventKind; 14] = [
 pub(crate) fn is_event_kind(kind: EventKind, event: &Event) -> bool
     ensures { result ≡ is_event_kind kind event.now }
 {
-    match event {
-        Event::Submit { .. } => matches!(kind, EventKind::Submit),
-        Event::Hear { .. } => matches!(kind, EventKind::Hear),
-        Event::Suspect { .. } => matches!(kind, EventKind::Suspect),
-        Event::Tick { .. } => matches!(kind, EventKind::Tick),
-        Event::Advance { .. } => matches!(kind, EventKind::Advance),
-        Event::Take { .. } => matches!(kind, EventKind::Take),
-        Event::Device { .. } => matches!(kind, EventKind::Device),
-        Event::Fail { .. } => matches!(kind, EventKind::Fail),
-        Event::Mark { .. } => matches!(kind, EventKind::Mark),
-        Event::Send { .. } => matches!(kind, EventKind::Send),
-        Event::Ack { .. } => matches!(kind, EventKind::Ack),
-        Event::Snap { .. } => matches!(kind, EventKind::Snap),
-        Event::Crash { .. } => matches!(kind, EventKind::Crash),
-        Event::Restart { .. } => matches!(kind, EventKind::Restart),
+    match event.what.kind() {
+        EventKind::Submit => matches!(kind, EventKind::Submit),
+        EventKind::Hear => matches!(kind, EventKind::Hear),
+        EventKind::Suspect => matches!(kind, EventKind::Suspect),
+        EventKind::Tick => matches!(kind, EventKind::Tick),
+        EventKind::Advance => matches!(kind, EventKind::Advance),
+        EventKind::Take => matches!(kind, EventKind::Take),
+        EventKind::Device => matches!(kind, EventKind::Device),
+        EventKind::Fail => matches!(kind, EventKind::Fail),
+        EventKind::Mark => matches!(kind, EventKind::Mark),
+        EventKind::Send => matches!(kind, EventKind::Send),
+        EventKind::Ack => matches!(kind, EventKind::Ack),
+        EventKind::Snap => matches!(kind, EventKind::Snap),
+        EventKind::Crash => matches!(kind, EventKind::Crash),
+        EventKind::Restart => matches!(kind, EventKind::Restart),
     }
 }
 

@@ -6,10 +6,9 @@ ghost use Rattle.rr_account.specs.Counts.{said_by, reason_of, reasons_behind, is
 ghost use Rattle.rr_account.specs.Texts.{IsNoteOn};
 
 use crate::outcome::{Idle, Outcome};
-use rr_sim::node_of;
 use rr_text::text_schedule::push_event;
 use rr_text::text_word::{push_bytes, push_number};
-use rr_text::{Event, ReportLine};
+use rr_text::{Event, EventKind, ReportLine};
 use rr_types::Refusal;
 use std::alloc::{AllocError, Global};
 use std::io;
@@ -182,40 +181,40 @@ fn push_words(text: &mut Vec<u8>, words: Words, node: u8) -> io::Result<()> {
 
 // What an event did.
 fn done_words(event: &Event) -> Words {
-    match event {
-        Event::Submit { .. } => Words::Around("node ", " takes the request"),
-        Event::Hear { .. } => Words::Around("node ", " hears it"),
-        Event::Suspect { .. } => Words::Around("the suspects of node ", " are these now"),
-        Event::Tick { .. } => Words::Around("the detector of node ", " ticks"),
-        Event::Advance { .. } => Words::Around(
+    match event.what.kind() {
+        EventKind::Submit => Words::Around("node ", " takes the request"),
+        EventKind::Hear => Words::Around("node ", " hears it"),
+        EventKind::Suspect => Words::Around("the suspects of node ", " are these now"),
+        EventKind::Tick => Words::Around("the detector of node ", " ticks"),
+        EventKind::Advance => Words::Around(
             "the lowest open instance of node ",
             " that has a round, if any, enters the next",
         ),
-        Event::Take { .. } => Words::Around("node ", " begins to flush its staged facts"),
-        Event::Device { .. } => Words::Around("node ", " makes its next device call"),
-        Event::Mark { .. } => Words::Around("the synced group of node ", " is marked"),
-        Event::Snap { .. } => Words::Around("node ", " begins to switch to a snapshot"),
-        Event::Crash { .. } => Words::Around("node ", " is down"),
-        Event::Restart { .. } => Words::Around("node ", " begins to open its disk"),
-        Event::Fail { .. } | Event::Send { .. } | Event::Ack { .. } => Words::Plain("done"),
+        EventKind::Take => Words::Around("node ", " begins to flush its staged facts"),
+        EventKind::Device => Words::Around("node ", " makes its next device call"),
+        EventKind::Mark => Words::Around("the synced group of node ", " is marked"),
+        EventKind::Snap => Words::Around("node ", " begins to switch to a snapshot"),
+        EventKind::Crash => Words::Around("node ", " is down"),
+        EventKind::Restart => Words::Around("node ", " begins to open its disk"),
+        EventKind::Fail | EventKind::Send | EventKind::Ack => Words::Plain("done"),
     }
 }
 
 // Appends what an event did.
 fn push_done(text: &mut Vec<u8>, event: &Event) -> io::Result<()> {
-    push_words(text, done_words(event), node_of(event).index())
+    push_words(text, done_words(event), event.node.index())
 }
 
 // Appends why an event was refused.
 fn push_refused(text: &mut Vec<u8>, event: &Event, refusal: Refusal) -> io::Result<()> {
-    let node = node_of(event).index();
-    let words = match (refusal, event) {
+    let node = event.node.index();
+    let words = match (refusal, event.what.kind()) {
         (Refusal::Down, _) => Words::Around("node ", " is down or opens its disk"),
         (Refusal::Failed, _) => Words::Around(
             "a device call of node ",
             " has failed, and it waits for a restart",
         ),
-        (Refusal::Busy, Event::Restart { .. }) => {
+        (Refusal::Busy, EventKind::Restart) => {
             Words::Around("node ", " is up or opens its disk already")
         }
         (Refusal::Busy, _) => Words::Around("a flush or a switch of node ", " isn't over"),
@@ -257,5 +256,5 @@ fn push_idle(text: &mut Vec<u8>, event: &Event, idle: Idle) -> io::Result<()> {
             Words::Around("no request that waits at node ", " is decided")
         }
     };
-    push_words(text, words, node_of(event).index())
+    push_words(text, words, event.node.index())
 }

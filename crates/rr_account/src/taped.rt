@@ -10,7 +10,7 @@ use crate::account::Account;
 use crate::outcome::Outcome;
 use rr_audit::{as_reported, as_scheduled};
 use rr_sim::decided_list;
-use rr_tape::{Tape, TapeEvent};
+use rr_tape::{Recorded, Tape, TapeEvent};
 use rr_text::{Event, Report, ReportLine, Schedule};
 use rr_types::{Body, Command, Estimate, Message, Op, Refusal, made_of};
 use std::alloc::{AllocError, Global};
@@ -73,8 +73,8 @@ fn push_sent(wire: &mut Vec<Message>, event: &TapeEvent) -> Result<(), AllocErro
     ensures { OnOk result (wire.new.items ≡ wire.old.items ++ sent_by event.now) }
 {
     made_of!(Body, Command, Estimate, Message, Op);
-    match event {
-        TapeEvent::Send { message, .. } => Ok(wire.push(*message)?),
+    match &event.what {
+        Recorded::Sent { message, .. } => Ok(wire.push(*message)?),
         _ => Ok(()),
     }
 }

@@ -10,10 +10,10 @@ ghost use Rattle.rr_account.specs.Outcomes.{stance_at, rests, has_synced, idle_i
 
 use crate::account::Account;
 use crate::outcome::{Idle, Outcome};
-use rr_sim::{Cluster, Stance, decided_list, node_of};
+use rr_sim::{Cluster, Stance, decided_list};
 use rr_stream::{Sink, tell_step};
-use rr_text::{Event, Report, Schedule};
-use rr_types::{Message, NodeId, Refusal};
+use rr_text::{Event, Happening, Report, Schedule};
+use rr_types::{Input, Message, NodeEvent, NodeId, Refusal};
 use std::alloc::Global;
 
 /// The account of the run of the schedule whose text the bytes are. Those who watch `out` are told how far it is; `out`
@@ -120,7 +120,7 @@ fn watch_event(
 fn stance_at(cluster: &Cluster, event: &Event) -> Option<Stance>
     ensures { result ≡ stance_at event.now cluster.now }
 {
-    match cluster.node(node_of(event)) {
+    match cluster.node(event.node) {
         Some(node) => Some(node.stance()),
         None => None,
     }
@@ -178,20 +178,19 @@ fn untold_outcome(
     ensures is { result ≡ untold event.now before behind wire.now }
     ensures untold { lines_told result ≡ 0 }
 {
+    let node = event.node;
+    let event = match &event.what {
+        Happening::At(event) => event,
+        Happening::Fail(_) => return Outcome::Idle(Idle::NoCallDue),
+        Happening::Crash { .. } => return Outcome::Quiet,
+    };
     match event {
-        Event::Hear { node, message } => came_of_hearing(*node, *message, wire),
-        Event::Take { .. } => idle_if(rests(behind), Idle::NothingStaged),
-        Event::Device { .. } => idle_if(rests(before) || has_synced(before), Idle::NoCallDue),
-        Event::Fail { .. } => Outcome::Idle(Idle::NoCallDue),
-        Event::Mark { .. } => idle_if(!has_synced(before), Idle::NothingSynced),
-        Event::Send { .. } => Outcome::Idle(Idle::NothingToSend),
-        Event::Ack { .. } => Outcome::Idle(Idle::NothingToAcknowledge),
-        Event::Submit { .. }
-        | Event::Suspect { .. }
-        | Event::Tick { .. }
-        | Event::Advance { .. }
-        | Event::Snap { .. }
-        | Event::Crash { .. }
-        | Event::Restart { .. } => Outcome::Quiet,
+        NodeEvent::Told(Input::Hear(message)) => came_of_hearing(node, *message, wire),
+        NodeEvent::Take => idle_if(rests(behind), Idle::NothingStaged),
+        NodeEvent::Device => idle_if(rests(before) || has_synced(before), Idle::NoCallDue),
+        NodeEvent::Mark => idle_if(!has_synced(before), Idle::NothingSynced),
+        NodeEvent::Send => Outcome::Idle(Idle::NothingToSend),
+        NodeEvent::Acknowledge => Outcome::Idle(Idle::NothingToAcknowledge),
+        NodeEvent::Told(_) | NodeEvent::Snap | NodeEvent::Restart => Outcome::Quiet,
     }
 }

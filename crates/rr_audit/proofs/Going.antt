@@ -9,12 +9,12 @@ use Rattle.rr_model.specs.NodeWorld.{steps_of_event}
 use Rattle.rr_model.specs.World.{Step}
 use Rattle.rr_tape.specs.declared.tape_event.TapeEvent.{TapeEvent}
 use Rattle.rr_audit.specs.declared.given.Given.{Given}
-use Rattle.rr_audit.specs.Audits.{Replay, new_replay, node_of, sent_by, IsNextAt, IsNext, replayed, Leads, IsTapeRun, AgreesWithOneList, StopsAt}
+use Rattle.rr_audit.specs.Audits.{Replay, new_replay, sent_by, IsNextAt, IsNext, replayed, Leads, IsTapeRun, AgreesWithOneList, StopsAt}
 use Rattle.rr_audit.specs.Following.{FollowsAt, Steps}
 use Rattle.rr_audit.proofs.TapeRuns.{tape_run, run_ends, agrees, leads_more}
 
 -- the node at this place followed the event, and its message joined the wire
-pub stepped : (e : TapeEvent) (old new : Replay) (k : ℕ) (s t : NodeState) → k ≡ node_of e → k < length old.nodes → s ≡ get_or old.nodes k s → FollowsAt old.wire e s t (Ok None)
+pub stepped : (e : TapeEvent) (old new : Replay) (k : ℕ) (s t : NodeState) → k ≡ e.node → k < length old.nodes → s ≡ get_or old.nodes k s → FollowsAt old.wire e s t (Ok None)
     → new ≡ record { nodes = slice_set old.nodes k t; wire = old.wire ++ sent_by e } → Steps e old new (Ok None)
 stepped e old new k s t is there own h same = (
   record { state = s; does = h.0; here = subst (λ (i : ℕ). slice_get old.nodes i ≡ Some s) is (slice_get_read old.nodes (length old.nodes) k s refl there own); next = h.1 },
@@ -22,9 +22,9 @@ stepped e old new k s t is there own h same = (
 )
 
 -- it doesn't follow
-pub unstepped : (e : TapeEvent) (old new : Replay) (k : ℕ) (s t : NodeState) (given : Given) → k ≡ node_of e → k < length old.nodes → s ≡ get_or old.nodes k s → FollowsAt old.wire e s t (Ok (Some given)) → Steps e old new (Ok (Some given))
+pub unstepped : (e : TapeEvent) (old new : Replay) (k : ℕ) (s t : NodeState) (given : Given) → k ≡ e.node → k < length old.nodes → s ≡ get_or old.nodes k s → FollowsAt old.wire e s t (Ok (Some given)) → Steps e old new (Ok (Some given))
 unstepped e old new k s t given is there own h next =
-    let here : slice_get old.nodes (node_of e) ≡ Some s = subst (λ (i : ℕ). slice_get old.nodes i ≡ Some s) is (slice_get_read old.nodes (length old.nodes) k s refl there own) in
+    let here : slice_get old.nodes e.node ≡ Some s = subst (λ (i : ℕ). slice_get old.nodes i ≡ Some s) is (slice_get_read old.nodes (length old.nodes) k s refl there own) in
     let same : next.state ≡ s = (let f : Some next.state ≡ Some s = sym next.here ∙ here in cc) in
     h next.does (subst (λ (x : NodeState). IsNextAt old.wire x e next.does) same next.next)
 
@@ -40,9 +40,9 @@ LeadsTo n events here = (steps : List Step) × Leads events (new_replay n) steps
 -- one event more
 pub went_on : (n : ℕ) (events more : List TapeEvent) (e : TapeEvent) (old new : Replay) → more ≡ events ++ e ∷ [] → LeadsTo n events old → Steps e old new (Ok None) → LeadsTo n more new
 went_on n events more e old new is (steps, leads) (next, same) = (
-  steps ++ steps_of_event (node_of e) next.state next.does,
-  subst (λ (es : List TapeEvent). Leads es (new_replay n) (steps ++ steps_of_event (node_of e) next.state next.does) new) (sym is)
-      (subst (λ (r : Replay). Leads (events ++ e ∷ []) (new_replay n) (steps ++ steps_of_event (node_of e) next.state next.does) r) (sym same) (leads_more events (new_replay n) old steps e next leads)),
+  steps ++ steps_of_event e.node next.state next.does,
+  subst (λ (es : List TapeEvent). Leads es (new_replay n) (steps ++ steps_of_event e.node next.state next.does) new) (sym is)
+      (subst (λ (r : Replay). Leads (events ++ e ∷ []) (new_replay n) (steps ++ steps_of_event e.node next.state next.does) r) (sym same) (leads_more events (new_replay n) old steps e next leads)),
 )
 
 -- all events

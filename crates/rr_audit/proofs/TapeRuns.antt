@@ -27,8 +27,11 @@ use Rattle.rr_model.proofs.NodeRestarts.{restarts_in_world}
 use Rattle.rr_model.proofs.Places.{place_of, Contains-split}
 use Rattle.rr_model.proofs.Soundness.{sound}
 use Rattle.rr_tape.specs.declared.tape_event.TapeEvent.{TapeEvent}
-use Rattle.rr_tape.specs.declared.tape_event.TapeEvent.TheVariants.{Submit, Hear, Suspect, Tick, Advance, Take, Mark, Send, Ack}
-use Rattle.rr_audit.specs.Audits.{Replay, new_replay, node_of, IsNext, sent_by, told_by, submitted_by, replayed, Leads, openings, IsTapeRun, AgreesWithOneList}
+use Rattle.rr_tape.specs.declared.tape_event.Recorded.{Recorded}
+use Rattle.rr_tape.specs.declared.tape_event.Recorded.TheVariants as tape
+use Rattle.rr_types.specs.declared.input.Input.TheVariants as told
+use Rattle.rr_tape.specs.Taped.{of_node}
+use Rattle.rr_audit.specs.Audits.{Replay, new_replay, IsNext, sent_by, told_by, submitted_by, replayed, Leads, openings, IsTapeRun, submits, sends, acks, AgreesWithOneList}
 use Rattle.rr_audit.proofs.Alike.{IsThere, IsProper, IsAlike, Took, takes}
 
 -- ---- the openings
@@ -118,11 +121,11 @@ take_all n [] old new w steps alike (none, same) =
     })
 take_all n (e ∷ es) old new w steps alike (next, rest, split, leads) =
     let took = takes n old e next w alike in
-    let more = take_all n es (replayed e next.state next.does old) new (after_steps w (steps_of_event (node_of e) next.state next.does)) rest took.alike leads in
-    let joined : after_steps w (steps_of_event (node_of e) next.state next.does ++ rest) ≡ after_steps (after_steps w (steps_of_event (node_of e) next.state next.does)) rest =
-    after_steps-append w (steps_of_event (node_of e) next.state next.does) rest in
+    let more = take_all n es (replayed e next.state next.does old) new (after_steps w (steps_of_event e.node next.state next.does)) rest took.alike leads in
+    let joined : after_steps w (steps_of_event e.node next.state next.does ++ rest) ≡ after_steps (after_steps w (steps_of_event e.node next.state next.does)) rest =
+    after_steps-append w (steps_of_event e.node next.state next.does) rest in
     subst (λ (x : List Step). TookAll n (e ∷ es) w x new) (sym split) (record {
-      run = run_on n w (steps_of_event (node_of e) next.state next.does) rest took.run more.run;
+      run = run_on n w (steps_of_event e.node next.state next.does) rest took.run more.run;
       alike = subst (λ (v : World). IsAlike n new v) (sym joined) more.alike;
       sent = ap (λ (v : World). v.wire) joined ∙ more.sent ∙ ap (λ (ms : List Message). ms ++ flat_map sent_by es) took.sent ∙ append_assoc w.wire (sent_by e) (flat_map sent_by es);
       told = ap (λ (v : World). v.trace) joined ∙ more.told ∙ ap (λ (ts : List Told). ts ++ flat_map told_by es) took.told ∙ append_assoc w.trace (told_by e) (flat_map told_by es);
@@ -175,10 +178,10 @@ cut [] after old new steps leads = record { first = []; second = steps; here = o
 cut (e ∷ before) after old new steps (next, rest, split, leads) =
     let c = cut before after (replayed e next.state next.does old) new rest leads in
     record {
-      first = steps_of_event (node_of e) next.state next.does ++ c.first;
+      first = steps_of_event e.node next.state next.does ++ c.first;
       second = c.second;
       here = c.here;
-      split = split ∙ ap (λ (xs : List Step). steps_of_event (node_of e) next.state next.does ++ xs) c.split ∙ sym (append_assoc (steps_of_event (node_of e) next.state next.does) c.first c.second);
+      split = split ∙ ap (λ (xs : List Step). steps_of_event e.node next.state next.does ++ xs) c.split ∙ sym (append_assoc (steps_of_event e.node next.state next.does) c.first c.second);
       leads = (next, c.first, refl, c.leads);
     }
 
@@ -193,39 +196,36 @@ given_by {A} of events e x is there =
 contains_later : {A : Type 0} (y : A) (xs : List A) (x : A) → Contains xs x → Contains (y ∷ xs) x
 contains_later y xs x (k, l, e) = (suc k, omega (arith, l), e)
 
--- what was submitted, an event submits
-submitted_by_event : (events : List TapeEvent) (c : Command) → Contains (flat_map submitted_by events) c → (p : ℕ) × Contains events (Submit p c)
+-- what was submitted, an event submits: this one, or one behind it
+submitted_first : (q : ℕ) (what : Recorded) (events : List TapeEvent) (c : Command) → (Contains (flat_map submitted_by events) c → (p : ℕ) × Contains events (submits p c))
+    → Contains (submitted_by (of_node q what) ++ flat_map submitted_by events) c → (p : ℕ) × Contains (of_node q what ∷ events) (submits p c)
+submitted_first q (tape.Told (told.Submit d)) events c more (zero, l, e) = (q, (0, omega arith, let same : d ≡ c = e in ap (submits q) same))
+submitted_first q (tape.Told (told.Submit d)) events c more (suc k, l, e) = let r = more (k, omega (arith, l), e) in (r.0, contains_later (submits q d) events (submits r.0 c) r.1)
+submitted_first q what events c more h = let r = more h in (r.0, contains_later (of_node q what) events (submits r.0 c) r.1)
+
+submitted_by_event : (events : List TapeEvent) (c : Command) → Contains (flat_map submitted_by events) c → (p : ℕ) × Contains events (submits p c)
 submitted_by_event [] c (k, l, e) = absurd (omega (arith, l))
-submitted_by_event (Submit p d ∷ events) c (zero, l, e) = (p, (0, omega arith, let same : d ≡ c = e in ap (Submit p) same))
-submitted_by_event (Submit p d ∷ events) c (suc k, l, e) = let r = submitted_by_event events c (k, omega (arith, l), e) in (r.0, contains_later (Submit p d) events (Submit r.0 c) r.1)
-submitted_by_event (Hear p k ∷ events) c h = let r = submitted_by_event events c h in (r.0, contains_later (Hear p k) events (Submit r.0 c) r.1)
-submitted_by_event (Suspect p set ∷ events) c h = let r = submitted_by_event events c h in (r.0, contains_later (Suspect p set) events (Submit r.0 c) r.1)
-submitted_by_event (Tick p ∷ events) c h = let r = submitted_by_event events c h in (r.0, contains_later (Tick p) events (Submit r.0 c) r.1)
-submitted_by_event (Advance p ∷ events) c h = let r = submitted_by_event events c h in (r.0, contains_later (Advance p) events (Submit r.0 c) r.1)
-submitted_by_event (Take p ∷ events) c h = let r = submitted_by_event events c h in (r.0, contains_later (Take p) events (Submit r.0 c) r.1)
-submitted_by_event (Mark p ∷ events) c h = let r = submitted_by_event events c h in (r.0, contains_later (Mark p) events (Submit r.0 c) r.1)
-submitted_by_event (Send k m ∷ events) c h = let r = submitted_by_event events c h in (r.0, contains_later (Send k m) events (Submit r.0 c) r.1)
-submitted_by_event (Ack p q reply ∷ events) c h = let r = submitted_by_event events c h in (r.0, contains_later (Ack p q reply) events (Submit r.0 c) r.1)
+submitted_by_event (e ∷ events) c h = submitted_first e.node e.what events c (submitted_by_event events c) h
 
 contains_right : {A : Type 0} (xs ys : List A) (y : A) → Contains ys y → Contains (xs ++ ys) y
 contains_right [] ys y h = h
 contains_right (x ∷ xs) ys y h = contains_later x (xs ++ ys) y (contains_right xs ys y h)
 
 module _ (n : ℕ) (events : List TapeEvent) (r : IsTapeRun n events) where
-  acknowledged : (before : List TapeEvent) (w : World) → w.trace ≡ (end_of (openings n)).trace ++ flat_map told_by before → (p : ℕ) (q : RequestNo) (reply : Reply) → Contains before (Ack p q reply) → Contains w.trace (Acknowledged p q reply)
+  acknowledged : (before : List TapeEvent) (w : World) → w.trace ≡ (end_of (openings n)).trace ++ flat_map told_by before → (p : ℕ) (q : RequestNo) (reply : Reply) → Contains before (acks p q reply) → Contains w.trace (Acknowledged p q reply)
   acknowledged before w told p q reply there =
       subst (λ (ts : List Told). Contains ts (Acknowledged p q reply)) (sym told)
-      (contains_right (end_of (openings n)).trace (flat_map told_by before) (Acknowledged p q reply) (given_by told_by before (Ack p q reply) (Acknowledged p q reply) refl there))
+      (contains_right (end_of (openings n)).trace (flat_map told_by before) (Acknowledged p q reply) (given_by told_by before (acks p q reply) (Acknowledged p q reply) refl there))
 
-  says : (k i : ℕ) (m : Message) (v : Command) → Contains events (Send k m) → m.body ≡ Decision i v → Says (end_of (openings n ++ r.steps)).wire m.from (Decision i v)
-  says k i m v there is = (
+  says : (p k i : ℕ) (m : Message) (v : Command) → Contains events (sends p k m) → m.body ≡ Decision i v → Says (end_of (openings n ++ r.steps)).wire m.from (Decision i v)
+  says p k i m v there is = (
     m.to,
     subst (λ (x : Message). Contains (end_of (openings n ++ r.steps)).wire x) (ap (λ b. record { from = m.from; to = m.to; body = b }) is)
-        (subst (λ (ms : List Message). Contains ms m) (sym r.wire) (given_by sent_by events (Send k m) m refl there)),
+        (subst (λ (ms : List Message). Contains ms m) (sym r.wire) (given_by sent_by events (sends p k m) m refl there)),
   )
 
   in_real_time : (list : List Command) → IsDecidedList n (end_of (openings n ++ r.steps)).wire list → (before after : List TapeEvent) → events ≡ before ++ after
-      → (p : ℕ) (q : RequestNo) (reply : Reply) → Contains before (Ack p q reply) → (v : Command) → ((at : ℕ) → Contains before (Submit at v) → ⊥)
+      → (p : ℕ) (q : RequestNo) (reply : Reply) → Contains before (acks p q reply) → (v : Command) → ((at : ℕ) → Contains before (submits at v) → ⊥)
       → (k : ℕ) → slice_get list k ≡ Some v → reply_of (take k list) q ≡ Some reply
   in_real_time list decided before after split p q reply there v new k at =
       let c = cut before after (new_replay n) r.at_the_end r.steps (subst (λ (es : List TapeEvent). Leads es (new_replay n) r.steps r.at_the_end) split r.leads) in
@@ -246,9 +246,9 @@ module _ (n : ℕ) (events : List TapeEvent) (r : IsTapeRun n events) where
         decided = subst (λ (ms : List Message). IsDecidedList n ms list.0) r.wire list.1;
         submitted = λ c there. submitted_by_event events c (subst (λ (cs : List Command). Contains cs c) r.submitted (s.its_commands_were_submitted list.0 list.1 c there));
         replies = λ p q reply there. s.acknowledged_replies_are_its_own list.0 list.1 p q reply (acknowledged events (end_of (openings n ++ r.steps)) r.told p q reply there);
-        decisions = λ j k i m o v w here there e f. s.one_command_is_chosen i v w
-            (s.what_decisions_say_is_chosen (openings n ++ r.steps) [] none m.from i v (says j i m v here e))
-            (s.what_decisions_say_is_chosen (openings n ++ r.steps) [] none o.from i w (says k i o w there f));
+        decisions = λ p q j k i m o v w here there e f. s.one_command_is_chosen i v w
+            (s.what_decisions_say_is_chosen (openings n ++ r.steps) [] none m.from i v (says p j i m v here e))
+            (s.what_decisions_say_is_chosen (openings n ++ r.steps) [] none o.from i w (says q k i o w there f));
         real_time = in_real_time list.0 list.1;
       }
 
@@ -256,14 +256,14 @@ module _ (n : ℕ) (events : List TapeEvent) (r : IsTapeRun n events) where
 
 -- one more event
 pub leads_more : (events : List TapeEvent) (old mid : Replay) (steps : List Step) (e : TapeEvent) (next : IsNext mid e) → Leads events old steps mid
-    → Leads (events ++ e ∷ []) old (steps ++ steps_of_event (node_of e) next.state next.does) (replayed e next.state next.does mid)
+    → Leads (events ++ e ∷ []) old (steps ++ steps_of_event e.node next.state next.does) (replayed e next.state next.does mid)
 leads_more [] old mid steps e next (none, same) =
-    let is : steps ++ steps_of_event (node_of e) next.state next.does ≡ steps_of_event (node_of e) next.state next.does ++ [] = ap (λ (xs : List Step). xs ++ steps_of_event (node_of e) next.state next.does) none ∙ sym (append-nil (steps_of_event (node_of e) next.state next.does)) in
-    subst (λ (o : Replay). Leads (e ∷ []) o (steps ++ steps_of_event (node_of e) next.state next.does) (replayed e next.state next.does mid)) same
+    let is : steps ++ steps_of_event e.node next.state next.does ≡ steps_of_event e.node next.state next.does ++ [] = ap (λ (xs : List Step). xs ++ steps_of_event e.node next.state next.does) none ∙ sym (append-nil (steps_of_event e.node next.state next.does)) in
+    subst (λ (o : Replay). Leads (e ∷ []) o (steps ++ steps_of_event e.node next.state next.does) (replayed e next.state next.does mid)) same
     (next, [], is, (refl, refl))
 leads_more (d ∷ events) old mid steps e next (first, rest, split, leads) = (
   first,
-  rest ++ steps_of_event (node_of e) next.state next.does,
-  ap (λ (xs : List Step). xs ++ steps_of_event (node_of e) next.state next.does) split ∙ append_assoc (steps_of_event (node_of d) first.state first.does) rest (steps_of_event (node_of e) next.state next.does),
+  rest ++ steps_of_event e.node next.state next.does,
+  ap (λ (xs : List Step). xs ++ steps_of_event e.node next.state next.does) split ∙ append_assoc (steps_of_event d.node first.state first.does) rest (steps_of_event e.node next.state next.does),
   leads_more events (replayed d first.state first.does old) mid rest e next leads,
 )

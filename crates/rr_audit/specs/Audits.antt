@@ -6,9 +6,11 @@ use Rattle.rr_types.specs.declared.command.RequestNo.{RequestNo}
 use Rattle.rr_types.specs.declared.command.Reply.{Reply}
 use Rattle.rr_types.specs.declared.message.Body.TheVariants.{Decision}
 use Rattle.rr_types.specs.declared.message.Message.{Message}
+use Rattle.rr_types.specs.Inputs.{told_as, message_on}
 use Rattle.rr_types.specs.Registry.{reply_of}
 use Rattle.rr_model.specs.NodeLaws.{NodeEvent, Told, Grouped, Marked, Left, Answered, after_event}
 use Rattle.rr_model.specs.NodeState.{NodeState, decided_prefix}
+use Rattle.rr_types.specs.declared.input.Input.{Input}
 use Rattle.rr_types.specs.declared.input.Input.TheVariants as node
 use Rattle.rr_model.specs.NodeStep.{refusal_of, next_leaving, next_acknowledged, started}
 use Rattle.rr_model.specs.NodeWorld.{steps_of_event}
@@ -16,7 +18,9 @@ use Rattle.rr_model.specs.Sound.{IsDecidedList, IsSound}
 use Rattle.rr_model.specs.World as world
 use Rattle.rr_model.specs.World.{Step, Restart, Sent, Acknowledged, IsRun, end_of}
 use Rattle.rr_tape.specs.declared.tape_event.TapeEvent.{TapeEvent}
-use Rattle.rr_tape.specs.declared.tape_event.TapeEvent.TheVariants.{Submit, Hear, Suspect, Tick, Advance, Take, Mark, Send, Ack}
+use Rattle.rr_tape.specs.declared.tape_event.Recorded.{Recorded}
+use Rattle.rr_tape.specs.declared.tape_event.Recorded.TheVariants as tape
+use Rattle.rr_tape.specs.Taped.{of_node}
 use Rattle.rr_audit.specs.declared.auditing.Verdict.{Verdict}
 use Rattle.rr_audit.specs.declared.auditing.Verdict.TheVariants.{Yes, No}
 
@@ -29,84 +33,62 @@ pub record Replay : Type 0 where
 abbrev pub new_replay : ℕ → Replay
 new_replay n = record { nodes = map (λ p. started n p [] 0) (range_with_len 0 n); wire = [] }
 
--- the node of an event
-abbrev pub node_of : TapeEvent → ℕ
-node_of (Submit p c) = p
-node_of (Hear p k) = p
-node_of (Suspect p set) = p
-node_of (Tick p) = p
-node_of (Advance p) = p
-node_of (Take p) = p
-node_of (Mark p) = p
-node_of (Send k m) = m.from
-node_of (Ack p q reply) = p
-
--- what a node in this state does by an event of the tape, where that is next over this wire: it doesn't refuse the
+-- what node p in this state does by what the tape has of it, where that is next over this wire: it doesn't refuse the
 -- input, and it has just this group to take or to mark, this message to send, or this reply to give
+abbrev pub IsNextOf : List Message → ℕ → NodeState → Recorded → NodeEvent → Type 0
+IsNextOf wire p s (tape.Told input) does =
+    (told : Input Message) × (told_as (message_on wire p) input ≡ Some told) × (does ≡ Told told) × (refusal_of told s ≡ None)
+IsNextOf wire p s tape.Take does = (does ≡ Grouped) × (s.running ≡ None) × (s.staged ≢ [])
+IsNextOf wire p s tape.Mark does = (does ≡ Marked) × IsSome s.running
+IsNextOf wire p s (tape.Sent k m) does = (does ≡ Left) × (k ≡ length wire) × (next_leaving s ≡ Some m)
+IsNextOf wire p s (tape.Acked q reply) does = (does ≡ Answered) × (next_acknowledged s ≡ Some q) × (reply_of (decided_prefix s) q ≡ Some reply)
+
+-- the same of an event at its node
 abbrev pub IsNextAt : List Message → NodeState → TapeEvent → NodeEvent → Type 0
-IsNextAt wire s (Submit p c) does = (does ≡ Told (node.Submit c)) × (refusal_of (node.Submit c) s ≡ None)
-IsNextAt wire s (Hear p k) does = (m : Message) × (slice_get wire k ≡ Some m) × (m.to ≡ p) × (does ≡ Told (node.Hear m)) × (refusal_of (node.Hear m) s ≡ None)
-IsNextAt wire s (Suspect p set) does = (does ≡ Told (node.Suspect set)) × (refusal_of (node.Suspect set) s ≡ None)
-IsNextAt wire s (Tick p) does = (does ≡ Told node.Tick) × (refusal_of node.Tick s ≡ None)
-IsNextAt wire s (Advance p) does = (does ≡ Told node.Advance) × (refusal_of node.Advance s ≡ None)
-IsNextAt wire s (Take p) does = (does ≡ Grouped) × (s.running ≡ None) × (s.staged ≢ [])
-IsNextAt wire s (Mark p) does = (does ≡ Marked) × IsSome s.running
-IsNextAt wire s (Send k m) does = (does ≡ Left) × (k ≡ length wire) × (next_leaving s ≡ Some m)
-IsNextAt wire s (Ack p q reply) does = (does ≡ Answered) × (next_acknowledged s ≡ Some q) × (reply_of (decided_prefix s) q ≡ Some reply)
+IsNextAt wire s e does = IsNextOf wire e.node s e.what does
 
 -- the world gives an event of the tape next: the state of its node, and what the node does
 pub record IsNext (r : Replay) (e : TapeEvent) : Type 0 where
   pub state : NodeState
   pub does : NodeEvent
-  pub here : slice_get r.nodes (node_of e) ≡ Some state
+  pub here : slice_get r.nodes e.node ≡ Some state
   pub next : IsNextAt r.wire state e does
 
--- the messages that an event puts on the wire
-abbrev pub sent_by : TapeEvent → List Message
-sent_by (Submit p c) = []
-sent_by (Hear p k) = []
-sent_by (Suspect p set) = []
-sent_by (Tick p) = []
-sent_by (Advance p) = []
-sent_by (Take p) = []
-sent_by (Mark p) = []
-sent_by (Send k m) = m ∷ []
-sent_by (Ack p q reply) = []
+-- the messages that an event puts on the wire, by what the tape has of it
+abbrev pub sent_of : Recorded → List Message
+sent_of (tape.Sent k m) = m ∷ []
+sent_of _ = []
 
--- what an event lets others know
+abbrev pub sent_by : TapeEvent → List Message
+sent_by e = sent_of e.what
+
+-- what an event of node p lets others know
+abbrev pub told_of : ℕ → Recorded → List world.Told
+told_of p (tape.Sent k m) = Sent m ∷ []
+told_of p (tape.Acked q reply) = Acknowledged p q reply ∷ []
+told_of p _ = []
+
 abbrev pub told_by : TapeEvent → List world.Told
-told_by (Submit p c) = []
-told_by (Hear p k) = []
-told_by (Suspect p set) = []
-told_by (Tick p) = []
-told_by (Advance p) = []
-told_by (Take p) = []
-told_by (Mark p) = []
-told_by (Send k m) = Sent m ∷ []
-told_by (Ack p q reply) = Acknowledged p q reply ∷ []
+told_by e = told_of e.node e.what
 
 -- what an event submits
+abbrev pub submitted_of : Recorded → List Command
+submitted_of (tape.Told (node.Submit c)) = c ∷ []
+submitted_of _ = []
+
 abbrev pub submitted_by : TapeEvent → List Command
-submitted_by (Submit p c) = c ∷ []
-submitted_by (Hear p k) = []
-submitted_by (Suspect p set) = []
-submitted_by (Tick p) = []
-submitted_by (Advance p) = []
-submitted_by (Take p) = []
-submitted_by (Mark p) = []
-submitted_by (Send k m) = []
-submitted_by (Ack p q reply) = []
+submitted_by e = submitted_of e.what
 
 -- the replay after an event by which its node, in this state before, does this
 abbrev pub replayed : TapeEvent → NodeState → NodeEvent → Replay → Replay
-replayed e s does r = record { nodes = slice_set r.nodes (node_of e) (after_event s does); wire = r.wire ++ sent_by e }
+replayed e s does r = record { nodes = slice_set r.nodes e.node (after_event s does); wire = r.wire ++ sent_by e }
 
 -- the events lead from one replay to another by these steps of the world: the world gives each event next, and its
 -- steps are those that the definition of a node has for it
 abbrev pub Leads : List TapeEvent → Replay → List Step → Replay → Type 0
 Leads [] old steps new = (steps ≡ []) × (new ≡ old)
 Leads (e ∷ es) old steps new =
-    (next : IsNext old e) × (rest : List Step) × (steps ≡ steps_of_event (node_of e) next.state next.does ++ rest)
+    (next : IsNext old e) × (rest : List Step) × (steps ≡ steps_of_event e.node next.state next.does ++ rest)
     × Leads es (replayed e next.state next.does old) rest new
 
 -- n nodes restart over empty disks
@@ -125,22 +107,32 @@ pub record IsTapeRun (n : ℕ) (events : List TapeEvent) : Type 0 where
   pub told : (end_of (openings n ++ steps)).trace ≡ (end_of (openings n)).trace ++ flat_map told_by events
   pub submitted : (end_of (openings n ++ steps)).submitted ≡ flat_map submitted_by events
 
+-- node p is asked for a command; it sends a message, which has number k; it acknowledges a request
+abbrev pub submits : ℕ → Command → TapeEvent
+submits p c = of_node p (tape.Told (node.Submit c))
+
+abbrev pub sends : ℕ → ℕ → Message → TapeEvent
+sends p k m = of_node p (tape.Sent k m)
+
+abbrev pub acks : ℕ → RequestNo → Reply → TapeEvent
+acks p q reply = of_node p (tape.Acked q reply)
+
 -- what the tape of n nodes says agrees with one list of commands, the decided list of the messages on it
 pub record AgreesWithOneList (n : ℕ) (events : List TapeEvent) : Type 0 where
   pub list : List Command
   pub decided : IsDecidedList n (flat_map sent_by events) list
   -- each command of the list was submitted
-  pub submitted : (c : Command) → Contains list c → (p : ℕ) × Contains events (Submit p c)
+  pub submitted : (c : Command) → Contains list c → (p : ℕ) × Contains events (submits p c)
   -- an acknowledged reply is the list's
-  pub replies : (p : ℕ) (q : RequestNo) (reply : Reply) → Contains events (Ack p q reply) → reply_of list q ≡ Some reply
+  pub replies : (p : ℕ) (q : RequestNo) (reply : Reply) → Contains events (acks p q reply) → reply_of list q ≡ Some reply
   -- no two nodes say that an instance has decided differently
-  pub decisions : (j k i : ℕ) (m o : Message) (v w : Command) → Contains events (Send j m) → Contains events (Send k o) →
+  pub decisions : (p q j k i : ℕ) (m o : Message) (v w : Command) → Contains events (sends p j m) → Contains events (sends q k o) →
       m.body ≡ Decision i v → o.body ≡ Decision i w → v ≡ w
   -- a command acknowledged by a moment stands before each command that was first submitted later (Herlihy and Wing 1990):
   -- the list up to that one gives each reply acknowledged by then
   pub real_time : (before after : List TapeEvent) → events ≡ before ++ after →
-      (p : ℕ) (q : RequestNo) (reply : Reply) → Contains before (Ack p q reply) →
-      (v : Command) → ((at : ℕ) → Contains before (Submit at v) → ⊥) →
+      (p : ℕ) (q : RequestNo) (reply : Reply) → Contains before (acks p q reply) →
+      (v : Command) → ((at : ℕ) → Contains before (submits at v) → ⊥) →
       (k : ℕ) → slice_get list k ≡ Some v → reply_of (take k list) q ≡ Some reply
 
 -- the event of this number, from 1, is the first that the world doesn't give next: those before it are a tape run

@@ -1,32 +1,33 @@
 -- An event of a tape in the words of a schedule, and its line of a report.
-use Rattle.std.specs.Prelude.{Option, None, Some}
+use Rattle.std.specs.Prelude.{ℕ, Option, None, Some}
 use Rattle.rr_text.specs.declared.event.Event.{Event}
-use Rattle.rr_text.specs.declared.event.Event.TheVariants as events
+use Rattle.rr_text.specs.Events.{event_of}
+use Rattle.rr_types.specs.declared.event.NodeEvent.{NodeEvent}
+use Rattle.rr_types.specs.declared.event.NodeEvent.TheVariants as events
 use Rattle.rr_text.specs.declared.report.ReportLine.{ReportLine}
 use Rattle.rr_text.specs.declared.report.ReportLine.TheVariants as reports
 use Rattle.rr_tape.specs.declared.tape_event.TapeEvent.{TapeEvent}
-use Rattle.rr_tape.specs.declared.tape_event.TapeEvent.TheVariants.{Submit, Hear, Suspect, Tick, Advance, Take, Mark, Send, Ack}
+use Rattle.rr_tape.specs.declared.tape_event.Recorded.{Recorded}
+use Rattle.rr_tape.specs.declared.tape_event.Recorded.TheVariants as tape
+
+-- what happens at a node, without what was sent or acknowledged
+abbrev pub happens_by : Recorded → NodeEvent ℕ
+happens_by (tape.Told input) = events.Told input
+happens_by tape.Take = events.Take
+happens_by tape.Mark = events.Mark
+happens_by (tape.Sent k m) = events.Send
+happens_by (tape.Acked q reply) = events.Acknowledge
 
 -- the event of a schedule that an event of a tape is
 abbrev pub as_scheduled : TapeEvent → Event
-as_scheduled (Submit p c) = events.Submit p c
-as_scheduled (Hear p k) = events.Hear p k
-as_scheduled (Suspect p set) = events.Suspect p set
-as_scheduled (Tick p) = events.Tick p
-as_scheduled (Advance p) = events.Advance p
-as_scheduled (Take p) = events.Take p
-as_scheduled (Mark p) = events.Mark p
-as_scheduled (Send k m) = events.Send m.from
-as_scheduled (Ack p q reply) = events.Ack p
+as_scheduled e = event_of e.node (happens_by e.what)
 
--- the line of a report that it is: a message that was sent, or an acknowledgement
+-- the line of a report on what a tape has of node p: a message that was sent, or an acknowledgement
+abbrev pub line_on : ℕ → Recorded → Option ReportLine
+line_on p (tape.Sent k m) = Some (reports.Send k m)
+line_on p (tape.Acked q reply) = Some (reports.Ack p q reply)
+line_on p _ = None
+
+-- the line of a report that an event of a tape is
 abbrev pub as_reported : TapeEvent → Option ReportLine
-as_reported (Submit p c) = None
-as_reported (Hear p k) = None
-as_reported (Suspect p set) = None
-as_reported (Tick p) = None
-as_reported (Advance p) = None
-as_reported (Take p) = None
-as_reported (Mark p) = None
-as_reported (Send k m) = Some (reports.Send k m)
-as_reported (Ack p q reply) = Some (reports.Ack p q reply)
+as_reported e = line_on e.node e.what

@@ -52,6 +52,6 @@ mod same;
 pub use auditing::{Verdict, audit, examine, watch_tape};
 pub use given::Given;
 pub use reading::audit_on;
-pub use replay::{Replay, node_of};
+pub use replay::Replay;
 pub use replay_node::ReplayNode;
 pub use rows::{as_reported, as_scheduled};

@@ -7,7 +7,7 @@ ghost use Rattle.rr_audit.specs.Following.{IsUnderWay};
 
 use crate::auditing::Verdict;
 use crate::given::Given;
-use crate::replay::{Replay, node_of};
+use crate::replay::Replay;
 use rr_tape::TapeEvent;
 use rr_types::{NodeId, Nodes, Refusal};
 use std::alloc::{AllocError, Global};
@@ -40,7 +40,7 @@ impl Progress {
             return Ok(());
         }
         if let Some(given) = self.replay.step(event)? {
-            self.stopped = Some((number, node_of(event), given));
+            self.stopped = Some((number, event.node, given));
         }
         Ok(())
     }

@@ -3,12 +3,12 @@
 ghost use Rattle.std.specs.Prelude.{◌≡◌, ◌++◌, [], map, option_map, slice_get, OnOk, IfOk};
 ghost use Rattle.std.specs.List.{range_with_len};
 ghost use Rattle.rr_model.specs.NodeStep.{started};
-ghost use Rattle.rr_audit.specs.Audits.{node_of, sent_by, new_replay};
+ghost use Rattle.rr_audit.specs.Audits.{sent_by, new_replay};
 ghost use Rattle.rr_audit.specs.Following.{Steps};
 
 use crate::given::Given;
 use crate::replay_node::ReplayNode;
-use rr_tape::TapeEvent;
+use rr_tape::{Recorded, TapeEvent};
 use rr_types::{NodeId, Nodes, Refusal};
 use rr_wire::MessageLog;
 use std::alloc::{AllocError, Global};
@@ -27,23 +27,6 @@ impl Model for Replay {
     ghost Value = { audit.Replay };
 
     ghost view = { λ r. record { nodes = r.nodes.items; wire = r.wire } };
-}
-
-/// The node at which an event happens.
-pub fn node_of(event: &TapeEvent) -> NodeId
-    ensures { result ≡ node_of event.now }
-{
-    match event {
-        TapeEvent::Submit { node, .. }
-        | TapeEvent::Hear { node, .. }
-        | TapeEvent::Suspect { node, .. }
-        | TapeEvent::Tick { node }
-        | TapeEvent::Advance { node }
-        | TapeEvent::Take { node }
-        | TapeEvent::Mark { node }
-        | TapeEvent::Ack { node, .. } => *node,
-        TapeEvent::Send { message, .. } => message.from,
-    }
 }
 
 // All nodes, each over no facts.
@@ -82,8 +65,8 @@ impl Replay {
     fn carry(&mut self, event: &TapeEvent) -> Result<(), AllocError>
         ensures ok { OnOk result (self.new ≡ record self.old { wire = self.old.wire ++ sent_by event.now }) }
     {
-        match event {
-            TapeEvent::Send { message, .. } => self.wire.push(message)?,
+        match &event.what {
+            Recorded::Sent { message, .. } => self.wire.push(message)?,
             _ => (),
         }
         Ok(())
@@ -96,7 +79,7 @@ impl Replay {
     pub fn step(&mut self, event: &TapeEvent) -> Result<Option<Given>, Refusal>
         ensures { Steps event.now self.old self.new result }
     {
-        let at = usize::from(node_of(event).index());
+        let at = usize::from(event.node.index());
         if at >= self.nodes.len() {
             return Ok(Some(Given::NoNode));
         }

@@ -4,13 +4,14 @@ ghost use Rattle.std.specs.Prelude.{◌≡◌, ◌≢◌, [], length, IfOk, IfEr
 ghost use Rattle.rr_model.specs.NodeState.{decided_prefix};
 ghost use Rattle.rr_model.specs.NodeStep.{node_step, refusal_of, group_taken, running_group, marked_running, message_left, next_leaving, next_acknowledged, acknowledged, started};
 ghost use Rattle.rr_types.specs.Registry.{reply_of};
+ghost use Rattle.rr_tape.specs.Taped.{of_node};
 ghost use Rattle.rr_audit.specs.Following.{Tells, Answers, FollowsAt};
 
 use crate::given::Given;
 use crate::paper::{opened, synced};
 use crate::same::is_same_message;
 use rr_core::Core;
-use rr_tape::TapeEvent;
+use rr_tape::{Recorded, TapeEvent};
 use rr_types::{Group, Input, Message, NodeId, Nodes, Refusal, Reply, RequestNo};
 use rr_wire::MessageLog;
 use std::alloc::{AllocError, Global};
@@ -64,7 +65,7 @@ impl ReplayNode {
     }
 
     // Tells the core an input.
-    fn tell(&mut self, input: &Input) -> Result<Option<Given>, Refusal>
+    fn tell(&mut self, input: &Input<Message>) -> Result<Option<Given>, Refusal>
         ensures { Answers (refusal_of input.now self.old ≡ None) (node_step input.now self.old) self.new result }
     {
         match self.core.step(input) {
@@ -80,7 +81,7 @@ impl ReplayNode {
         node: NodeId,
         number: u32,
     ) -> Result<Option<Given>, Refusal>
-        ensures { FollowsAt wire.now (TapeEvent.Hear node number) self.old self.new result }
+        ensures { FollowsAt wire.now (of_node node (Recorded.Told (Input.Hear number))) self.old self.new result }
     {
         let Some(message) = wire.get(number as usize) else {
             return Ok(Some(Given::NoMessage));
@@ -89,6 +90,21 @@ impl ReplayNode {
             return Ok(Some(Given::OtherNode(message.to)));
         }
         self.tell(&Input::Hear(message))
+    }
+
+    // Is told an input of a tape. A message that it hears is one of the wire.
+    fn tell_from(
+        &mut self,
+        wire: &MessageLog,
+        node: NodeId,
+        input: &Input<u32>,
+    ) -> Result<Option<Given>, Refusal>
+        ensures { FollowsAt wire.now (of_node node (Recorded.Told input.now)) self.old self.new result }
+    {
+        match input {
+            Input::Hear(number) => self.hear_from(wire, node, *number),
+            _ => self.tell(&input.unheard()),
+        }
     }
 
     // Begins to flush the oldest staged facts.
@@ -172,21 +188,17 @@ impl ReplayNode {
     pub fn follow(&mut self, wire: &MessageLog, event: &TapeEvent) -> Result<Option<Given>, Refusal>
         ensures { FollowsAt wire.now event.now self.old self.new result }
     {
-        match event {
-            TapeEvent::Submit { command, .. } => self.tell(&Input::Submit(*command)),
-            TapeEvent::Hear { node, message } => self.hear_from(wire, *node, *message),
-            TapeEvent::Suspect { set, .. } => self.tell(&Input::Suspect(*set)),
-            TapeEvent::Tick { .. } => self.tell(&Input::Tick),
-            TapeEvent::Advance { .. } => self.tell(&Input::Advance),
-            TapeEvent::Take { .. } => self.take(),
-            TapeEvent::Mark { .. } => self.mark(),
-            TapeEvent::Send { number, message } => {
+        match &event.what {
+            Recorded::Told(input) => self.tell_from(wire, event.node, input),
+            Recorded::Take => self.take(),
+            Recorded::Mark => self.mark(),
+            Recorded::Sent { number, message } => {
                 if *number as usize != wire.len() {
                     return Ok(Some(Given::Number(wire.len() as u64)));
                 }
                 self.send(*number, message)
             }
-            TapeEvent::Ack { request, reply, .. } => Ok(self.acknowledge(*request, *reply)),
+            Recorded::Acked { request, reply } => Ok(self.acknowledge(*request, *reply)),
         }
     }
 }

@@ -3,52 +3,37 @@
 ghost use Rattle.std.specs.Prelude.{◌≡◌};
 ghost use Rattle.rr_audit.specs.Rows.{as_scheduled, as_reported};
 
-use rr_tape::TapeEvent;
+use rr_tape::{Recorded, TapeEvent};
 use rr_text::{Event, ReportLine};
+use rr_types::NodeEvent;
 
 /// The event of a schedule that an event of a tape is. A tape also has what was sent or acknowledged, which a schedule leaves out.
 pub fn as_scheduled(event: &TapeEvent) -> Event
     ensures { result ≡ as_scheduled event.now }
 {
-    match event {
-        TapeEvent::Submit { node, command } => Event::Submit {
-            node: *node,
-            command: *command,
-        },
-        TapeEvent::Hear { node, message } => Event::Hear {
-            node: *node,
-            message: *message,
-        },
-        TapeEvent::Suspect { node, set } => Event::Suspect {
-            node: *node,
-            set: *set,
-        },
-        TapeEvent::Tick { node } => Event::Tick { node: *node },
-        TapeEvent::Advance { node } => Event::Advance { node: *node },
-        TapeEvent::Take { node } => Event::Take { node: *node },
-        TapeEvent::Mark { node } => Event::Mark { node: *node },
-        TapeEvent::Send { message, .. } => Event::Send { node: message.from },
-        TapeEvent::Ack { node, .. } => Event::Ack { node: *node },
-    }
+    let what = match event.what {
+        Recorded::Told(input) => NodeEvent::Told(input),
+        Recorded::Take => NodeEvent::Take,
+        Recorded::Mark => NodeEvent::Mark,
+        Recorded::Sent { .. } => NodeEvent::Send,
+        Recorded::Acked { .. } => NodeEvent::Acknowledge,
+    };
+    Event::at(event.node, what)
 }
 
 /// The line of a report that an event of a tape is: a message that was sent, or an acknowledgement.
 pub fn as_reported(event: &TapeEvent) -> Option<ReportLine>
     ensures { result ≡ as_reported event.now }
 {
-    match event {
-        TapeEvent::Send { number, message } => Some(ReportLine::Send {
-            number: u64::from(*number),
-            message: *message,
+    match event.what {
+        Recorded::Sent { number, message } => Some(ReportLine::Send {
+            number: u64::from(number),
+            message,
         }),
-        TapeEvent::Ack {
-            node,
+        Recorded::Acked { request, reply } => Some(ReportLine::Ack {
+            node: event.node,
             request,
             reply,
-        } => Some(ReportLine::Ack {
-            node: *node,
-            request: *request,
-            reply: *reply,
         }),
         _ => None,
     }

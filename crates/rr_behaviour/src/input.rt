@@ -12,11 +12,11 @@ use crate::hear::heard;
 use crate::submit::{submit_refusal, submitted};
 use crate::tick::{advance_refusal, advanced, ticked_on};
 use rr_step::{Changes, State, Step};
-use rr_types::{Input, Refusal};
+use rr_types::{Input, Message, Refusal};
 use std::alloc::{AllocError, Global};
 
 /// Why an input is refused for what it is. It takes no memory.
-pub fn input_refusal(state: &State, input: &Input) -> Option<Refusal>
+pub fn input_refusal(state: &State, input: &Input<Message>) -> Option<Refusal>
     ensures { result ≡ input_refusal input.now state.now }
 {
     match input {
@@ -31,7 +31,7 @@ pub fn input_refusal(state: &State, input: &Input) -> Option<Refusal>
 fn take_in(
     step: &mut Step<'_>,
     alloc: Global,
-    input: &Input,
+    input: &Input<Message>,
     is_held: bool,
 ) -> Result<(), AllocError>
     requires allowed { input_refusal input.now step.old.state ≡ None }
@@ -70,7 +70,7 @@ pub fn input_step(
     state: &State,
     room: Box<Changes>,
     alloc: Global,
-    input: &Input,
+    input: &Input<Message>,
     is_held: bool,
 ) -> Result<Box<Changes>, Refusal>
     requires allowed { input_refusal input.now state.now ≡ None }

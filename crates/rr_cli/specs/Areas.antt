@@ -35,7 +35,8 @@ areas_in Json first second = areas_objects first second
 
 -- what was answered for the text on both areas: the text, or the place where one is broken; or memory ran out
 abbrev pub IsShownIn : Form → Result (Vec ℕ Global) Refusal → Inspected → Type 0
-IsShownIn form (Ok text) seen = (first : Option AreaReport) × (second : Option AreaReport) × (seen ≡ Tells first second) × (text.items ≡ areas_in form first second)
+IsShownIn form (Ok text) seen =
+    (first : Option AreaReport) × (second : Option AreaReport) × (seen ≡ Tells first second) × (text.items ≡ areas_in form first second)
 IsShownIn form (Err e) seen = IsTold (Err e) seen
 
 -- the same for people

@@ -87,11 +87,15 @@ pub data EndsOnCompared (bytes text : List ℕ) (status : ℕ) (old new : Printi
 -- a view by its words
 abbrev pub EndsOnView : View → Readable → Readable → ℕ → Printing → Printing → Type 0
 EndsOnView (Report file) from to status old new = EndsOnInput (EndsOnText Schedule shown.Report) (reading_of file from) (reading_of file to) status old new
-EndsOnView (Explanation form file) from to status old new = EndsOnInput (EndsOnText Schedule (shown.Explanation form)) (reading_of file from) (reading_of file to) status old new
+EndsOnView (Explanation form file) from to status old new =
+    EndsOnInput (EndsOnText Schedule (shown.Explanation form)) (reading_of file from) (reading_of file to) status old new
 EndsOnView (Finish what file) from to status old new = EndsOnInput (EndsOnFinish what) (reading_of file from) (reading_of file to) status old new
-EndsOnView (Statistics form file) from to status old new = EndsOnInput (EndsOnText Either (shown.Statistics form)) (reading_of file from) (reading_of file to) status old new
-EndsOnView (TapeExplanation form file) from to status old new = EndsOnInput (EndsOnText Tape (shown.Explanation form)) (reading_of file from) (reading_of file to) status old new
-EndsOnView (TapeStatistics form file) from to status old new = EndsOnInput (EndsOnText Tape (shown.Statistics form)) (reading_of file from) (reading_of file to) status old new
+EndsOnView (Statistics form file) from to status old new =
+    EndsOnInput (EndsOnText Either (shown.Statistics form)) (reading_of file from) (reading_of file to) status old new
+EndsOnView (TapeExplanation form file) from to status old new =
+    EndsOnInput (EndsOnText Tape (shown.Explanation form)) (reading_of file from) (reading_of file to) status old new
+EndsOnView (TapeStatistics form file) from to status old new =
+    EndsOnInput (EndsOnText Tape (shown.Statistics form)) (reading_of file from) (reading_of file to) status old new
 EndsOnView (Comparison file report) from to status old new =
     EndsOnInput (λ bytes. EndsOnInput (EndsOnCompared bytes) (left_behind file report from) (reading_of report to))
     (reading_of file from) (reading_of file to) status old new

@@ -11,6 +11,7 @@ use Rattle.rr_types.specs.Promises.{IsAscending}
 use Rattle.rr_registry.specs.Kept.{Kept, kept_of, kept_reply}
 use Rattle.rr_model.specs.NodeState.{NodeState, next_number, open_instances, decided_prefix}
 use Rattle.rr_types.specs.declared.input.Input.{Input}
+use Rattle.rr_types.specs.declared.message.Message.{Message}
 use Rattle.rr_types.specs.declared.input.Input.TheVariants.{Submit, Suspect, Tick, Advance, Hear}
 use Rattle.rr_model.specs.NodeStep.{taken_in, node_step, input_refusal, refusal_of, restored, started}
 use Rattle.rr_step.specs.Steps.{Changed, combined}
@@ -24,7 +25,7 @@ use Rattle.rr_core.proofs.CoreLemmas as core
 use Rattle.rr_core.proofs.StepLaws as law
 
 -- a step that is allowed has a number for the next fact
-has_room : (input : Input) (s : NodeState) → refusal_of input s ≡ None → next_number (node_step input s) < 2 ^ 64
+has_room : (input : Input Message) (s : NodeState) → refusal_of input s ≡ None → next_number (node_step input s) < 2 ^ 64
 unfolding refusal_of
 has_room input s h = by (input_refusal input s) refl (ltb (next_number (node_step input s)) (2 ^ 64)) refl
   where
@@ -34,7 +35,7 @@ has_room input s h = by (input_refusal input s) refl (ltb (next_number (node_ste
     by (Some y) e false g = absurd (let k = rw e at h in cc)
 
 -- and stays lawful
-taken_lawful : (input : Input) (s : NodeState) → IsLawful s → IsLawful (taken_in input s)
+taken_lawful : (input : Input Message) (s : NodeState) → IsLawful s → IsLawful (taken_in input s)
 unfolding taken_in
 taken_lawful (Submit c) s h = core.submit_lawful c s h
 taken_lawful (Hear m) s h = core.hear_lawful m s h
@@ -42,11 +43,11 @@ taken_lawful (Suspect set) s h = core.suspect_lawful set s h
 taken_lawful Tick s h = core.tick_lawful s h
 taken_lawful Advance s h = core.advance_lawful s h
 
-stays_lawful : (input : Input) (s : NodeState) → IsLawful s → IsLawful (node_step input s)
+stays_lawful : (input : Input Message) (s : NodeState) → IsLawful s → IsLawful (node_step input s)
 stays_lawful input s h = rw (step_is input s) (law.settle_lawful _ (taken_lawful input s h))
 
 -- what an input changes can be taken on
-pub taken_on : (input : Input) (s : NodeState) (c : Changed) → IsStep input s c → CanBeTaken s c
+pub taken_on : (input : Input Message) (s : NodeState) (c : Changed) → IsStep input s c → CanBeTaken s c
 taken_on input s c d = record {
   lawful = λ h. subst IsLawful (sym d.done) (stays_lawful input s h);
   room = subst (λ (t : NodeState). next_number t < 2 ^ 64) (sym d.done) (has_room input s d.allowed);
@@ -66,7 +67,7 @@ unfolding started
 started_kept n p next es k t a m e f = core.start_kept n p next es k (restored n p es next) t (open_instances (restored n p es next)) a m e refl f
 
 -- what an input changes can be taken on by the state itself
-pub taken_at : (input : Input) (s t : NodeState) (c : Changed) → s ≡ t → IsStep input s c → CanBeTaken t c
+pub taken_at : (input : Input Message) (s t : NodeState) (c : Changed) → s ≡ t → IsStep input s c → CanBeTaken t c
 taken_at input s t c e d = subst (λ (u : NodeState). CanBeTaken u c) e (taken_on input s c d)
 
 -- the state is kept, whether memory was there or wanting

@@ -22,7 +22,8 @@ use rr_journal::{Opened, Synced};
 use rr_registry::{Entries, Registry};
 use rr_step::{Changes, State};
 use rr_types::{
-    Command, Group, Input, Instance, NodeId, NodeSet, Nodes, Promise, Refusal, Reply, RequestNo,
+    Command, Group, Input, Instance, Message, NodeId, NodeSet, Nodes, Promise, Refusal, Reply,
+    RequestNo,
 };
 use std::alloc::{AllocError, Global};
 use std::marker::Model;
@@ -125,7 +126,7 @@ impl Core {
 
     /// Whether an input is a command whose request the decided prefix holds.
     #[tactic(auto, using(crate::proofs::TakenLemmas::held))]
-    fn is_repeated(&self, input: &Input) -> bool
+    fn is_repeated(&self, input: &Input<Message>) -> bool
         ensures { result ≡ is_repeated input.now self.now }
     {
         match input {
@@ -137,7 +138,7 @@ impl Core {
     /// The node is told this. It is refused for what it is even where memory runs out: a new command while all instances
     /// are decided here is `ListFull`, and an advance out of the last round `RoundsOut`. It is `TooLarge` where a fact
     /// would have no number.
-    pub fn step(&mut self, input: &Input) -> Result<(), Refusal>
+    pub fn step(&mut self, input: &Input<Message>) -> Result<(), Refusal>
         ensures ok { OnOk result (self.new ≡ node_step input.now self.old) }
         ensures allowed { OnOk result (refusal_of input.now self.old ≡ None) }
         ensures order { (e : Refusal) → input_refusal input.now self.old ≡ Some e → result ≡ Err e }

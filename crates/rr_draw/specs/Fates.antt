@@ -11,7 +11,10 @@ use Rattle.rr_types.specs.declared.message.MessageKind.{MessageKind}
 use Rattle.rr_types.specs.declared.message.MessageKind.TheVariants.{Estimate, Proposal, Ack, Decision, Request, Nack, Beat, Suspects, Ask}
 use Rattle.rr_types.specs.Messages.{message_kind}
 use Rattle.rr_text.specs.declared.event.Event.{Event}
-use Rattle.rr_text.specs.declared.event.Event.TheVariants.{Send, Hear, Device, Take, Mark}
+use Rattle.rr_text.specs.declared.event.Happening.{Happening}
+use Rattle.rr_text.specs.declared.event.Happening.TheVariants.{At}
+use Rattle.rr_types.specs.declared.input.Input.TheVariants.{Hear}
+use Rattle.rr_types.specs.declared.event.NodeEvent.TheVariants as node
 use Rattle.rr_text.specs.declared.report.ReportLine.{ReportLine}
 use Rattle.rr_text.specs.declared.report.ReportLine.TheVariants as line
 use Rattle.rr_draw.specs.declared.cut.Cut.{Cut}
@@ -37,11 +40,15 @@ is_refusal _ = false
 
 -- ---- instances
 
+-- the message that is sent by what happens, or that it names as one to hear
+abbrev pub message_by : Happening → List ReportLine → List Message → Option Message
+message_by (At node.Send) lines wire = message_in (slice_get lines 0)
+message_by (At (node.Told (Hear k))) lines wire = slice_get wire k
+message_by _ lines wire = None
+
 -- the message that an event has sent, or that it names as one to hear
 abbrev pub message_of : Event → List ReportLine → List Message → Option Message
-message_of (Send p) lines wire = message_in (slice_get lines 0)
-message_of (Hear p k) lines wire = slice_get wire k
-message_of _ lines wire = None
+message_of e lines wire = message_by e.what lines wire
 
 -- the instance that a message speaks of, if it speaks of one
 abbrev pub instance_of : Body → Option ℕ
@@ -68,12 +75,16 @@ speaks_of i seen = is_on i (message_of seen.event seen.lines seen.wire)
 abbrev pub speaks : Cut → Seen → Bool
 speaks cut seen = option_map_or (λ i. speaks_of i seen) cut.instance true
 
+-- whether facts may be synced or marked by what happens
+abbrev pub may_tell : Happening → Bool
+may_tell (At node.Device) = true
+may_tell (At node.Take) = true
+may_tell (At node.Mark) = true
+may_tell _ = false
+
 -- whether facts may be synced or marked at an event
 abbrev pub may_tell_facts : Event → Bool
-may_tell_facts (Device p) = true
-may_tell_facts (Take p) = true
-may_tell_facts (Mark p) = true
-may_tell_facts _ = false
+may_tell_facts e = may_tell e.what
 
 -- ---- fates
 
@@ -82,10 +93,14 @@ abbrev pub hearing : ℕ → ℕ → List ReportLine → Option Message → Opti
 hearing p k lines None = None
 hearing p k lines (Some m) = if m.to == p && not (is_refusal (slice_get lines 0)) then Some (k, m) else None
 
+-- the message that node p hears by what happens
+abbrev pub heard_in : ℕ → Happening → List ReportLine → List Message → Option (ℕ × Message)
+heard_in p (At (node.Told (Hear k))) lines wire = hearing p k lines (slice_get wire k)
+heard_in p _ lines wire = None
+
 -- the message that an event hears
 abbrev pub heard_by : Event → List ReportLine → List Message → Option (ℕ × Message)
-heard_by (Hear p k) lines wire = hearing p k lines (slice_get wire k)
-heard_by _ lines wire = None
+heard_by e lines wire = heard_in e.node e.what lines wire
 
 -- its number
 abbrev pub number_of : Option (ℕ × Message) → List ℕ

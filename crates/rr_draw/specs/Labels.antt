@@ -12,7 +12,9 @@ use Rattle.rr_types.specs.declared.refusal.Refusal.TheVariants.{Down, Failed}
 use Rattle.rr_types.specs.Messages.{message_kind, message_word}
 use Rattle.rr_types.specs.Refusal.{name_of}
 use Rattle.rr_text.specs.declared.event.Event.{Event}
-use Rattle.rr_text.specs.declared.event.Event.TheVariants.{Device, Fail}
+use Rattle.rr_text.specs.declared.event.Happening.{Happening}
+use Rattle.rr_text.specs.declared.event.Happening.TheVariants.{At, Fail}
+use Rattle.rr_types.specs.declared.event.NodeEvent.TheVariants.{Device}
 use Rattle.rr_text.specs.declared.report.ReportLine.{ReportLine}
 use Rattle.rr_text.specs.declared.report.ReportLine.TheVariants as line
 use Rattle.rr_text.specs.ReportTexts.{request_text, report_words}
@@ -53,11 +55,15 @@ heard_words (Some it) =
 abbrev pub opened_words : ℕ → ℕ → List ℕ
 opened_words facts decided = codes "opened: facts " ++ decimal facts ++ codes ", decided " ++ decimal decided
 
+-- whether a device call is what happens
+abbrev pub happens_as_call : Happening → Bool
+happens_as_call (At Device) = true
+happens_as_call (Fail fill) = true
+happens_as_call _ = false
+
 -- whether an event is a device call
 abbrev pub is_call : Event → Bool
-is_call (Device p) = true
-is_call (Fail p fill) = true
-is_call _ = false
+is_call e = happens_as_call e.what
 
 -- whether a node refuses a device call for this before it makes it
 abbrev pub is_before_the_call : Refusal → Bool

@@ -4,7 +4,6 @@ use Rattle.std.specs.Option.{option_map_or}
 use Rattle.std.specs.List.{flat_map}
 use Rattle.rr_text.specs.declared.event.Event.{Event}
 use Rattle.rr_text.specs.Lines.{nodes_line}
-use Rattle.rr_text.specs.Scheduled.{node_of}
 use Rattle.rr_text.specs.ScheduleTexts.{event_line}
 use Rattle.rr_sim.specs.Clusters.{Cluster, new_cluster, Steps, IsSpeltBehind}
 use Rattle.rr_sim.specs.Told.{told, TellsAll, IsReportOn}
@@ -25,7 +24,7 @@ escaped b =
 
 -- whether the event of a line lies within the lines and the node of a cut
 abbrev pub shows : Cut → ℕ → Event → Bool
-shows cut at e = nat_le cut.from at && nat_le at cut.to && option_map_or (λ p. p == node_of e) cut.node true
+shows cut at e = nat_le cut.from at && nat_le at cut.to && option_map_or (λ p. p == e.node) cut.node true
 
 -- events, of which the first stands on this line, lead from one cluster to another; each is seen with the lines that the step at
 -- it adds, and no others, and with the messages that were sent by then
@@ -61,7 +60,8 @@ pub record IsElement (cut : Cut) (at : ℕ) (before : List ℕ) (seen : Seen) (t
 -- what a picture has of the event of a line: its element, or nothing where the cut doesn't show it. Where an instance is given, an
 -- event that doesn't speak of it is left out too; but it may be shown where it may sync or mark facts
 pub data IsDrawn (cut : Cut) (at : ℕ) (before : List ℕ) (seen : Seen) (text : List ℕ) : Type 0 where
-  drawn : shows cut at seen.event ≡ true → (speaks cut seen || may_tell_facts seen.event) ≡ true → IsElement cut at before seen text → IsDrawn cut at before seen text
+  drawn : shows cut at seen.event ≡ true → (speaks cut seen || may_tell_facts seen.event) ≡ true → IsElement cut at before seen text
+      → IsDrawn cut at before seen text
   left_out : shows cut at seen.event ≡ false → text ≡ [] → IsDrawn cut at before seen text
   of_another_instance : speaks cut seen ≡ false → text ≡ [] → IsDrawn cut at before seen text
 

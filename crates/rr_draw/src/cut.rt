@@ -5,7 +5,6 @@ ghost use Rattle.std.specs.Option.{option_map_or};
 ghost use Rattle.rr_draw.specs.Fates.{instance_of, is_on, folds};
 ghost use Rattle.rr_draw.specs.Pictures.{shows};
 
-use rr_sim::node_of;
 use rr_text::Event;
 use rr_types::{Body, Instance, Message, MessageKind, NodeId};
 
@@ -37,7 +36,7 @@ impl Cut {
     pub(crate) fn shows(&self, line: u64, event: &Event) -> bool
         ensures { result ≡ shows self.now line event.now }
     {
-        self.from <= line && line <= self.to && self.has_node(node_of(event))
+        self.from <= line && line <= self.to && self.has_node(event.node)
     }
 
     /// Whether an instance is the one that is asked for, if one is.

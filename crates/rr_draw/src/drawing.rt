@@ -11,8 +11,8 @@ use crate::style::{LEGEND, LEGEND_WIDTH, STYLE};
 use crate::words::{decided_by, decided_words, is_of_a_call, line_words, message_in};
 use rr_sim::Stance;
 use rr_text::text_word::{push_op, push_set};
-use rr_text::{Event, ReportLine};
-use rr_types::{Command, Fact, Message, NodeId, NodeSet, Nodes, Refusal};
+use rr_text::{Event, Happening, ReportLine};
+use rr_types::{Command, Fact, Input, Message, NodeEvent, NodeId, NodeSet, Nodes, Refusal};
 use std::alloc::Global;
 use std::io;
 use std::io::Write;
@@ -130,7 +130,7 @@ impl Drawing {
             is_about: false,
         };
         let Shown { is_within, speaks } = shown;
-        let node = rr_sim::node_of(event);
+        let node = event.node;
         let is_folded = self.is_folded(event, scene, message);
         let told = line_words(self.alloc, event, scene.lines)?;
         self.is_shown = is_within && speaks && !is_folded;
@@ -176,10 +176,10 @@ impl Drawing {
         if !scene.lines.is_empty() {
             return false;
         }
-        match event {
-            Event::Tick { .. } => true,
-            Event::Device { node } => {
-                self.is_idle(*node)
+        match &event.what {
+            Happening::At(NodeEvent::Told(Input::Tick)) => true,
+            Happening::At(NodeEvent::Device) => {
+                self.is_idle(event.node)
                     && matches!(scene.stance, Some(Stance::Resting | Stance::Flushed))
             }
             _ => false,
@@ -224,23 +224,32 @@ impl Drawing {
         told: &[u8],
         out: &mut Vec<u8>,
     ) -> io::Result<()> {
-        match event {
-            Event::Submit { node, command } => self.draw_submit(*node, command, out),
-            Event::Send { node } => match message_in(lines) {
-                Some(message) => self.draw_send(*node, message, told, out),
+        let node = event.node;
+        match &event.what {
+            Happening::At(NodeEvent::Told(input)) => self.draw_told(node, input, out),
+            Happening::At(NodeEvent::Send) => match message_in(lines) {
+                Some(message) => self.draw_send(node, message, told, out),
                 None => Ok(()),
             },
-            Event::Ack { node } => {
+            Happening::At(NodeEvent::Acknowledge) => {
                 if let Some(ReportLine::Ack { .. }) = lines.get(0) {
-                    push_mark(out, "t", x_of(*node), self.y)?;
-                    self.label(*node, Side::Right, self.y, "a", told)?;
+                    push_mark(out, "t", x_of(node), self.y)?;
+                    self.label(node, Side::Right, self.y, "a", told)?;
                 }
                 Ok(())
             }
-            Event::Suspect { node, set } => self.draw_suspects(*node, *set, out),
-            Event::Tick { node } => self.draw_word(*node, b"tick", out),
-            Event::Advance { node } => self.draw_word(*node, b"advance", out),
             _ => Ok(()),
+        }
+    }
+
+    /// What a node is told, but for a message: that has an arrow.
+    fn draw_told(&mut self, node: NodeId, input: &Input<u32>, out: &mut Vec<u8>) -> io::Result<()> {
+        match input {
+            Input::Submit(command) => self.draw_submit(node, command, out),
+            Input::Hear(_) => Ok(()),
+            Input::Suspect(set) => self.draw_suspects(node, *set, out),
+            Input::Tick => self.draw_word(node, b"tick", out),
+            Input::Advance => self.draw_word(node, b"advance", out),
         }
     }
 
@@ -344,19 +353,23 @@ impl Drawing {
         let Some(stance) = scene.stance else {
             return Ok(());
         };
-        match event {
-            Event::Take { .. } => {
+        match &event.what {
+            Happening::At(NodeEvent::Take) => {
                 self.begin(node, stance, false)?;
                 if self.is_tape {
                     self.draw_facts(node, scene.synced, art)?;
                 }
             }
-            Event::Snap { .. } => self.begin(node, stance, true)?,
-            Event::Device { .. } => self.draw_call(node, stance, scene, told, art)?,
+            Happening::At(NodeEvent::Snap) => self.begin(node, stance, true)?,
+            Happening::At(NodeEvent::Device) => self.draw_call(node, stance, scene, told, art)?,
             // A mark that comes while a job runs, or to a node that is down, marks nothing.
-            Event::Mark { .. } if stance == Stance::Resting => self.draw_mark(node, art)?,
-            Event::Restart { .. } => self.draw_restart(node, stance, &mut art.shapes)?,
-            Event::Crash { .. } => self.draw_crash(node, &mut art.shapes)?,
+            Happening::At(NodeEvent::Mark) if stance == Stance::Resting => {
+                self.draw_mark(node, art)?;
+            }
+            Happening::At(NodeEvent::Restart) => {
+                self.draw_restart(node, stance, &mut art.shapes)?;
+            }
+            Happening::Crash { .. } => self.draw_crash(node, &mut art.shapes)?,
             _ => (),
         }
         if matches!(stance, Stance::Down | Stance::Failed) {

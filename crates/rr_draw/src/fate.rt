@@ -7,8 +7,8 @@ ghost use Rattle.std.specs.BTreeSet.{contains};
 ghost use Rattle.rr_draw.specs.Fates.{heard_by, hearing, fate_at, fate_class, never_heard, Keeps};
 
 use crate::words::is_refusal;
-use rr_text::{Event, ReportLine};
-use rr_types::{Message, NodeId};
+use rr_text::{Event, Happening, ReportLine};
+use rr_types::{Input, Message, NodeEvent, NodeId};
 use std::alloc::{AllocError, Global};
 use std::collections::BTreeSet;
 
@@ -124,9 +124,9 @@ pub(crate) fn heard_by<'a>(
 ) -> Option<(u32, &'a Message)>
     ensures { option_map (λ it. (it.0, it.1.now)) result ≡ heard_by event.now lines.now wire.entry.now }
 {
-    match event {
-        Event::Hear { node, message } => {
-            hearing(*node, *message, lines, message_at(wire, *message))
+    match &event.what {
+        Happening::At(NodeEvent::Told(Input::Hear(message))) => {
+            hearing(event.node, *message, lines, message_at(wire, *message))
         }
         _ => None,
     }

@@ -15,14 +15,14 @@ use crate::escape::push_escaped;
 use crate::fate::{Heard, heard_by, message_at};
 use crate::scene::{Scene, scene_of};
 use crate::words::{heard_words, message_in};
-use rr_sim::{Cluster, decided_list, node_of, tell_read};
+use rr_sim::{Cluster, decided_list, tell_read};
 use rr_stream::Sink;
 use rr_text::text_parse::{first_line, next_event};
 use rr_text::text_report::{push_decided_list, push_report_lines};
 use rr_text::text_schedule::push_event_line;
 use rr_text::text_word::{push_bytes, push_number};
-use rr_text::{Event, ReportLine};
-use rr_types::{Message, Nodes, Refusal};
+use rr_text::{Event, Happening, ReportLine};
+use rr_types::{Input, Message, NodeEvent, Nodes, Refusal};
 use std::alloc::{AllocError, Global};
 use std::io;
 
@@ -61,9 +61,9 @@ fn message_of<'a>(
 ) -> Option<&'a Message>
     ensures { option_map (λ m. m.now) result ≡ message_of event.now lines.entry.now wire.entry.now }
 {
-    match event {
-        Event::Send { .. } => message_in(lines),
-        Event::Hear { message, .. } => message_at(wire, *message),
+    match &event.what {
+        Happening::At(NodeEvent::Send) => message_in(lines),
+        Happening::At(NodeEvent::Told(Input::Hear(message))) => message_at(wire, *message),
         _ => None,
     }
 }
@@ -72,8 +72,8 @@ fn message_of<'a>(
 fn may_tell_facts(event: &Event) -> bool
     ensures { result ≡ may_tell_facts event.now }
 {
-    match event {
-        Event::Device { .. } | Event::Take { .. } | Event::Mark { .. } => true,
+    match &event.what {
+        Happening::At(NodeEvent::Device | NodeEvent::Take | NodeEvent::Mark) => true,
         _ => false,
     }
 }
@@ -256,7 +256,7 @@ fn draw_line(
 {
     cluster.step(alloc, line, event)?;
     push_report_lines(report, cluster.lines())?;
-    let scene = scene_of(cluster, node_of(event));
+    let scene = scene_of(cluster, event.node);
     draw_event(alloc, cut, line, event, &scene, picture, elements)?;
     cluster.forget_lines();
     Ok(())

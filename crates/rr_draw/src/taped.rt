@@ -11,8 +11,8 @@ use crate::drawing::Drawing;
 use crate::fate::Heard;
 use crate::picture::{Picture, draw_event, has_many, written};
 use crate::scene::tape_scene;
-use rr_audit::{Replay, as_reported, as_scheduled, node_of};
-use rr_tape::{Tape, TapeEvent};
+use rr_audit::{Replay, as_reported, as_scheduled};
+use rr_tape::{Recorded, Tape, TapeEvent};
 use rr_text::ReportLine;
 use rr_text::text_word::push_bytes;
 use rr_types::{Body, Command, Estimate, Message, Op, Refusal, made_of};
@@ -34,8 +34,8 @@ fn push_sent(wire: &mut Vec<Message>, event: &TapeEvent) -> Result<(), AllocErro
     ensures { OnOk result (wire.new.items ≡ wire.old.items ++ sent_by event.now) }
 {
     made_of!(Body, Command, Estimate, Message, Op);
-    match event {
-        TapeEvent::Send { message, .. } => Ok(wire.push(*message)?),
+    match &event.what {
+        Recorded::Sent { message, .. } => Ok(wire.push(*message)?),
         _ => Ok(()),
     }
 }
@@ -56,7 +56,7 @@ fn draw_tape_event(
     ensures err { IfErr result (λ e. e ≡ Refusal.OutOfMemory) }
 {
     let lines = lines_on(alloc, event)?;
-    let scene = tape_scene(replay, lines.as_slice(), wire, node_of(event));
+    let scene = tape_scene(replay, lines.as_slice(), wire, event.node);
     let scheduled = as_scheduled(event);
     draw_event(alloc, cut, line, &scheduled, &scene, picture, elements)?;
     Ok(())

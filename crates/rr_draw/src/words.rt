@@ -8,8 +8,8 @@ ghost use Rattle.rr_draw.specs.Labels.{round_text, about, message_name, heard_wo
 use crate::cut::Cut;
 use rr_text::text_report::{push_report_words, push_request};
 use rr_text::text_word::{push_byte, push_bytes, push_number, push_number_word};
-use rr_text::{Event, ReportLine};
-use rr_types::{Body, Fact, Instance, Message, Refusal, Round};
+use rr_text::{Event, Happening, ReportLine};
+use rr_types::{Body, Fact, Instance, Message, NodeEvent, Refusal, Round};
 use std::alloc::{AllocError, Global};
 
 /// The message that the line of an event tells as sent, if it does.
@@ -97,7 +97,10 @@ fn push_opened(out: &mut Vec<u8>, facts: u64, decided: u64) -> Result<(), AllocE
 fn is_call(event: &Event) -> bool
     ensures { result ≡ is_call event.now }
 {
-    matches!(event, Event::Device { .. } | Event::Fail { .. })
+    matches!(
+        &event.what,
+        Happening::At(NodeEvent::Device) | Happening::Fail(_)
+    )
 }
 
 // Whether a node refuses a device call for this before it makes it.

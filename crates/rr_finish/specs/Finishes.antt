@@ -1,24 +1,27 @@
 -- The finish of a schedule: events that go on from it without faults, and the report on both.
 use Rattle.std.specs.Prelude.{◌≡◌, ℕ, List, ◌++◌}
 use Rattle.std.specs.List.{AllByRecursion, flat_map}
+use Rattle.rr_types.specs.declared.event.NodeEvent.TheVariants.{Told, Snap}
+use Rattle.rr_types.specs.declared.input.Input.TheVariants.{Submit}
 use Rattle.rr_text.specs.declared.event.Event.{Event}
-use Rattle.rr_text.specs.declared.event.Event.TheVariants.{Submit, Hear, Suspect, Tick, Advance, Take, Device, Fail, Mark, Send, Ack, Snap, Crash, Restart}
+use Rattle.rr_text.specs.declared.event.Happening.{Happening}
+use Rattle.rr_text.specs.declared.event.Happening.TheVariants.{At, Fail, Crash}
 use Rattle.rr_text.specs.Scheduled.{Scheduled, IsSchedule, IsEvent}
 use Rattle.rr_text.specs.ScheduleTexts.{event_line, schedule_text}
 use Rattle.rr_sim.specs.Told.{IsReportOn}
 
--- the event is no crash, no failing device call, no snapshot and no command of a client
-abbrev pub IsFaultless : Event → Type 0
-IsFaultless (Submit p c) = ⊥
-IsFaultless (Fail p fill) = ⊥
-IsFaultless (Snap p) = ⊥
-IsFaultless (Crash p a b fill) = ⊥
-IsFaultless _ = Unit {0}
+-- it is no crash, no failing device call, no snapshot and no command of a client
+abbrev pub IsFaultless : Happening → Type 0
+IsFaultless (At (Told (Submit c))) = ⊥
+IsFaultless (At Snap) = ⊥
+IsFaultless (At event) = Unit {0}
+IsFaultless (Fail fill) = ⊥
+IsFaultless (Crash a b fill) = ⊥
 
 -- an event among n nodes that may be added
 pub record IsAdded (n : ℕ) (e : Event) : Type 0 where
   pub event : IsEvent n e
-  pub faultless : IsFaultless e
+  pub faultless : IsFaultless e.what
 
 -- the second text is the first with the lines of events that may be added behind it
 pub record Adds (n : ℕ) (old new : List ℕ) : Type 0 where

@@ -6,10 +6,10 @@ ghost use Rattle.rr_lively.specs.Lively.{IsSoFar, MayStay};
 ghost use Rattle.rr_finish.specs.Finishes.{IsAdded, Adds};
 
 use crate::plan::Plan;
-use rr_sim::{Cluster, Stance, node_of};
-use rr_text::Event;
+use rr_sim::{Cluster, Stance};
 use rr_text::text_schedule::push_event_line;
-use rr_types::Nodes;
+use rr_text::{Event, Happening};
+use rr_types::{Input, NodeEvent, Nodes};
 use std::alloc::{AllocError, Global};
 
 /// The nodes behind the events so far, the line of the next event, and the texts of the schedule and of its report.
@@ -26,26 +26,20 @@ pub(crate) struct Going {
 fn is_added(nodes: Nodes, event: &Event) -> bool
     ensures { IsTrue result → IsAdded nodes event.now }
 {
-    if node_of(event).index() >= nodes.count() {
+    if event.node.index() >= nodes.count() {
         return false;
     }
-    match event {
-        Event::Suspect { set, .. } => u32::from(set.bits()) < 1 << nodes.count(),
-        Event::Hear { message, .. } => {
+    match &event.what {
+        Happening::At(NodeEvent::Told(Input::Suspect(set))) => {
+            u32::from(set.bits()) < 1 << nodes.count()
+        }
+        Happening::At(NodeEvent::Told(Input::Hear(message))) => {
             let _message = *message;
             true
         }
-        Event::Tick { .. }
-        | Event::Advance { .. }
-        | Event::Take { .. }
-        | Event::Device { .. }
-        | Event::Mark { .. }
-        | Event::Send { .. }
-        | Event::Ack { .. }
-        | Event::Restart { .. } => true,
-        Event::Submit { .. } | Event::Fail { .. } | Event::Snap { .. } | Event::Crash { .. } => {
-            false
-        }
+        Happening::At(NodeEvent::Told(Input::Submit(_)) | NodeEvent::Snap) => false,
+        Happening::At(_) => true,
+        Happening::Fail(_) | Happening::Crash { .. } => false,
     }
 }
 
@@ -53,9 +47,9 @@ fn is_added(nodes: Nodes, event: &Event) -> bool
 fn may_stay(cluster: &Cluster, event: &Event) -> bool
     ensures { IsTrue result → MayStay cluster.now event.now }
 {
-    match event {
-        Event::Send { .. } | Event::Ack { .. } => true,
-        Event::Take { node } => match cluster.node(*node) {
+    match event.what {
+        Happening::At(NodeEvent::Send | NodeEvent::Acknowledge) => true,
+        Happening::At(NodeEvent::Take) => match cluster.node(event.node) {
             Some(seat) => seat.stance() == Stance::Resting,
             None => false,
         },

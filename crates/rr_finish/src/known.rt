@@ -3,8 +3,8 @@
 ghost use Rattle.std.specs.Prelude.{◌≡◌};
 
 use rr_sim::Stance;
-use rr_text::Event;
-use rr_types::{Body, Message, NodeId, NodeSet, RequestNo};
+use rr_text::{Event, Happening};
+use rr_types::{Body, Input, Message, NodeEvent, NodeId, NodeSet, RequestNo};
 use std::alloc::{AllocError, Global};
 use std::collections::{BTreeMap, BTreeSet};
 
@@ -111,14 +111,14 @@ impl Known {
         self.suspects = self.suspects || set.bits() != 0;
     }
 
-    /// An event came to it, which has put a message on the wire or acknowledged a request where `is_told`.
-    pub(crate) fn learn(&mut self, event: &Event, stance: Stance, is_told: bool) {
-        match event {
-            Event::Send { .. } => self.may_send = is_told,
-            Event::Ack { .. } => self.may_ack = is_told,
-            Event::Take { .. } => self.may_take = stance != Stance::Resting,
+    /// This happened at it, and has put a message on the wire or acknowledged a request where `is_told`.
+    pub(crate) fn learn(&mut self, what: &Happening, stance: Stance, is_told: bool) {
+        match what {
+            Happening::At(NodeEvent::Send) => self.may_send = is_told,
+            Happening::At(NodeEvent::Acknowledge) => self.may_ack = is_told,
+            Happening::At(NodeEvent::Take) => self.may_take = stance != Stance::Resting,
             // It says again in which rounds it is.
-            Event::Tick { .. } => {
+            Happening::At(NodeEvent::Told(Input::Tick)) => {
                 self.rounds.clear();
                 self.stir();
             }
@@ -240,11 +240,11 @@ impl Known {
         wire: &[Message],
     ) -> Result<Option<Event>, AllocError> {
         Ok(match stance {
-            Stance::Down | Stance::Failed => Some(Event::Restart { node }),
-            Stance::Opening | Stance::Calling => Some(Event::Device { node }),
-            Stance::Flushed => Some(Event::Mark { node }),
+            Stance::Down | Stance::Failed => Some(Event::at(node, NodeEvent::Restart)),
+            Stance::Opening | Stance::Calling => Some(Event::at(node, NodeEvent::Device)),
+            Stance::Flushed => Some(Event::at(node, NodeEvent::Mark)),
             Stance::Resting => match self.next_heard(wire)? {
-                Some(message) => Some(Event::Hear { node, message }),
+                Some(message) => Some(Event::told(node, Input::Hear(message))),
                 None => self.next_own(node),
             },
         })
@@ -253,20 +253,19 @@ impl Known {
     /// What it does next of its own, where it has nothing to hear.
     fn next_own(&mut self, node: NodeId) -> Option<Event> {
         if self.suspects {
-            let set = NodeSet::empty();
-            Some(Event::Suspect { node, set })
+            Some(Event::told(node, Input::Suspect(NodeSet::empty())))
         } else if self.may_send {
-            Some(Event::Send { node })
+            Some(Event::at(node, NodeEvent::Send))
         } else if self.may_take {
-            Some(Event::Take { node })
+            Some(Event::at(node, NodeEvent::Take))
         } else if self.may_ack {
-            Some(Event::Ack { node })
+            Some(Event::at(node, NodeEvent::Acknowledge))
         } else if self.is_to_tick {
             self.is_to_tick = false;
-            Some(Event::Tick { node })
+            Some(Event::told(node, Input::Tick))
         } else if self.advances > 0 {
             self.advances -= 1;
-            Some(Event::Advance { node })
+            Some(Event::told(node, Input::Advance))
         } else {
             None
         }

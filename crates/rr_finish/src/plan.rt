@@ -4,9 +4,9 @@ ghost use Rattle.std.specs.Prelude.{◌≡◌};
 
 use crate::finish::Ending;
 use crate::known::Known;
-use rr_sim::{Cluster, Stance, node_of};
-use rr_text::{Event, ReportLine};
-use rr_types::{Body, Fact, Message, NodeId, Nodes};
+use rr_sim::{Cluster, Stance};
+use rr_text::{Event, Happening, ReportLine};
+use rr_types::{Body, Fact, Input, Message, NodeEvent, NodeId, Nodes};
 use std::alloc::{AllocError, Global};
 
 /// In how many turns nothing may be decided or acknowledged before the run is taken for stuck. With all nodes up, a decision
@@ -68,12 +68,12 @@ impl Plan {
 
     /// An event is about to happen: a mark may decide instances.
     pub(crate) fn foresee(&mut self, cluster: &Cluster, event: &Event) -> Result<(), AllocError> {
-        let Event::Mark { node } = event else {
+        if !matches!(event.what, Happening::At(NodeEvent::Mark)) {
             return Ok(());
-        };
+        }
         let (Some(seat), Some(known)) = (
-            cluster.node(*node),
-            self.known.get_mut(usize::from(node.index())),
+            cluster.node(event.node),
+            self.known.get_mut(usize::from(event.node.index())),
         ) else {
             return Ok(());
         };
@@ -93,15 +93,17 @@ impl Plan {
         for line in cluster.lines() {
             self.learn_line(line)?;
         }
-        let node = node_of(event);
+        let node = event.node;
         let stance = stance_of(cluster, node);
         let Some(known) = self.known.get_mut(usize::from(node.index())) else {
             return Ok(());
         };
-        match event {
-            Event::Submit { command, .. } if !is_told => known.ask(command.request)?,
-            Event::Suspect { set, .. } if !is_told => known.suspect(*set),
-            Event::Hear { message, .. } => {
+        match &event.what {
+            Happening::At(NodeEvent::Told(Input::Submit(command))) if !is_told => {
+                known.ask(command.request)?
+            }
+            Happening::At(NodeEvent::Told(Input::Suspect(set))) if !is_told => known.suspect(*set),
+            Happening::At(NodeEvent::Told(Input::Hear(message))) => {
                 if let Some(message) = cluster.wire().get(*message as usize) {
                     if let Body::Suspects(set) = message.body {
                         known.suspect_too(set);
@@ -110,7 +112,7 @@ impl Plan {
             }
             _ => (),
         }
-        known.learn(event, stance, is_told);
+        known.learn(&event.what, stance, is_told);
         if matches!(stance, Stance::Down | Stance::Failed | Stance::Opening) {
             known.stop();
         }

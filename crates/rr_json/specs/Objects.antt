@@ -26,7 +26,8 @@ abbrev pub op_members : Op → List ℕ
 op_members (Claim name value) = text_member (codes "operation") (op_word kinds.Claim) ++ text_member (codes "name") name ++ words_member (codes "value") value
 op_members (Update name value) = text_member (codes "operation") (op_word kinds.Update) ++ text_member (codes "name") name ++ words_member (codes "value") value
 op_members (Release name) = text_member (codes "operation") (op_word kinds.Release) ++ text_member (codes "name") name
-op_members (Transfer name owner) = text_member (codes "operation") (op_word kinds.Transfer) ++ text_member (codes "name") name ++ number_member (codes "owner") owner
+op_members (Transfer name owner) =
+    text_member (codes "operation") (op_word kinds.Transfer) ++ text_member (codes "name") name ++ number_member (codes "owner") owner
 
 -- a command: its client, the client's own number, and its operation
 abbrev pub command_object : Command → List ℕ
@@ -50,7 +51,9 @@ set_member s = label (codes "nodes") ++ 91 ∷ listed (map (λ d. d ∷ []) (mem
 
 -- what a message says: its kind, and the members that this kind has, without the end of the object
 abbrev pub body_front : Body → List ℕ
-body_front (bodies.Estimate i e) = opened (message_word says.Estimate) ++ instance_member i ++ round_member e.round ++ number_member (codes "stamp") e.stamp ++ command_member e.command
+body_front (bodies.Estimate i e) =
+    opened (message_word says.Estimate) ++ instance_member i ++ round_member e.round ++ number_member (codes "stamp") e.stamp
+    ++ command_member e.command
 body_front (bodies.Proposal i r c) = opened (message_word says.Proposal) ++ instance_member i ++ round_member r ++ command_member c
 body_front (bodies.Ack i r) = opened (message_word says.Ack) ++ instance_member i ++ round_member r
 body_front (bodies.Decision i c) = opened (message_word says.Decision) ++ instance_member i ++ command_member c
@@ -91,7 +94,9 @@ line_front (lines.Ack p q r) =
 line_front (lines.Restart p facts decided bindings) =
     opened (codes "restart") ++ number_member (codes "node") p ++ number_member (codes "facts") facts ++ number_member (codes "decided") decided
     ++ names_member bindings
-line_front (lines.Refuse line r) = opened (codes "refuse") ++ number_member (codes "line") line ++ number_member (codes "number") (number_of r) ++ text_member (codes "name") (name_of r)
+line_front (lines.Refuse line r) =
+    opened (codes "refuse") ++ number_member (codes "line") line ++ number_member (codes "number") (number_of r)
+    ++ text_member (codes "name") (name_of r)
 
 -- a line of a report as an object
 abbrev pub line_object : ReportLine → List ℕ

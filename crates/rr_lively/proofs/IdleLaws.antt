@@ -10,25 +10,26 @@ use Rattle.rr_types.specs.declared.refusal.Refusal.TheVariants as because
 use Rattle.rr_types.specs.Registry.{reply_of}
 use Rattle.rr_model.specs.NodeState.{NodeState, decided_prefix}
 use Rattle.rr_model.specs.NodeStep.{group_taken, next_leaving, message_left, next_acknowledged, acknowledged}
-use Rattle.rr_node.specs.declared.event.NodeEvent.{NodeEvent}
-use Rattle.rr_node.specs.declared.event.NodeEvent.TheVariants as node
+use Rattle.rr_types.specs.declared.event.NodeEvent.{NodeEvent}
+use Rattle.rr_types.specs.declared.event.NodeEvent.TheVariants as node
 use Rattle.rr_node.specs.declared.event.Outcome.TheVariants.{Quiet, Left, Replied}
 use Rattle.rr_node.specs.declared.event.Stance.TheVariants as waits
 use Rattle.rr_node.specs.Seats.{Seat, Answer, Doing, Stopped, Faulted, Opening, Serving, Flush, Resting, Writing, Flushed, Switching, Journaled, goes_on, refuse, by_doing, take_up, seat_step}
 use Rattle.rr_node.specs.Stances.{stance_of}
 use Rattle.rr_journal.specs.Calls.{Call}
 use Rattle.rr_text.specs.declared.event.Event.{Event}
-use Rattle.rr_text.specs.declared.event.Event.TheVariants.{Submit, Hear, Suspect, Tick, Advance, Take, Device, Fail, Mark, Send, Ack, Snap, Crash, Restart}
+use Rattle.rr_text.specs.declared.event.Happening.{Happening}
+use Rattle.rr_text.specs.declared.event.Happening.TheVariants.{At, Fail}
 use Rattle.rr_text.specs.declared.report.ReportLine.{ReportLine}
 use Rattle.rr_text.specs.declared.report.ReportLine.TheVariants as line
 use Rattle.rr_text.specs.Words.{spaced}
 use Rattle.rr_text.specs.ReportTexts.{report_words}
 use Rattle.rr_text.specs.ReportTexts as texts
-use Rattle.rr_sim.specs.Clusters.{Cluster, note_of, with_answer, event_step}
+use Rattle.rr_sim.specs.Clusters.{Cluster, note_of, with_answer, happens}
 use Rattle.rr_sim.specs.Random.{StepsInMemory}
 use Rattle.rr_sim.specs.Told.{told}
 use Rattle.rr_sim.proofs.ClusterLaws.{get_here}
-use Rattle.rr_lively.specs.Lively.{MayStay}
+use Rattle.rr_lively.specs.Lively.{LeavesAll, MayStay}
 
 -- the answer of a node that nothing changes
 abbrev idle : Seat → Answer
@@ -100,7 +101,7 @@ right_empty : {X : Type 0} (xs ys : List X) → xs ++ ys ≡ [] → ys ≡ []
 right_empty [] ys is = is
 right_empty (x ∷ xs) ys is = absurd (let no : x ∷ (xs ++ ys) ≡ [] = is in cc)
 
-module _ (event : NodeEvent) (p at : ℕ) (c : Cluster) where
+module _ (event : NodeEvent Message) (p at : ℕ) (c : Cluster) where
   abbrev next_by : Option Seat → Cluster
   next_by o = option_map_or (λ seat. with_answer p at c (seat_step event seat)) o c
 
@@ -125,29 +126,19 @@ take_by p at c (Some seat) there is next get rests =
     let same = take_stays p at (length c.wire) seat seat.doing untold resting in
     ap (with_answer p at c) same ∙ with_idle p at c seat there
 
-may_step : (at : ℕ) (e : Event) (old : Cluster) → (event_step at false e old).lines ≡ [] → MayStay (record (event_step at false e old) { lines = [] }) e → event_step at false e old ≡ old
-may_step at (Send p) old none may = stays_by node.Send p at old (slice_get old.seats p) refl none (λ seat there untold. send_stays p at (length old.wire) seat seat.doing untold)
-may_step at (Ack p) old none may = stays_by node.Acknowledge p at old (slice_get old.seats p) refl none (λ seat there untold. ack_stays p at (length old.wire) seat seat.doing untold)
-may_step at (Take p) old none (seat, there, rests) = take_by p at old (slice_get old.seats p) refl none seat there rests
-may_step at (Submit p v) old none may = absurd may
-may_step at (Hear p k) old none may = absurd may
-may_step at (Suspect p set) old none may = absurd may
-may_step at (Tick p) old none may = absurd may
-may_step at (Advance p) old none may = absurd may
-may_step at (Device p) old none may = absurd may
-may_step at (Fail p fill) old none may = absurd may
-may_step at (Mark p) old none may = absurd may
-may_step at (Snap p) old none may = absurd may
-may_step at (Crash p a b fill) old none may = absurd may
-may_step at (Restart p) old none may = absurd may
+may_step : (p at : ℕ) (what : Happening) (old : Cluster) → (happens p at false what old).lines ≡ [] → LeavesAll (record (happens p at false what old) { lines = [] }) p what → happens p at false what old ≡ old
+may_step p at (At node.Send) old none may = stays_by node.Send p at old (slice_get old.seats p) refl none (λ seat there untold. send_stays p at (length old.wire) seat seat.doing untold)
+may_step p at (At node.Acknowledge) old none may = stays_by node.Acknowledge p at old (slice_get old.seats p) refl none (λ seat there untold. ack_stays p at (length old.wire) seat seat.doing untold)
+may_step p at (At node.Take) old none (seat, there, rests) = take_by p at old (slice_get old.seats p) refl none seat there rests
+may_step p at what old none may = absurd may
 
-failing_goes : (e : Event) (c : Cluster) (p : ℕ) (fill : List ℕ) → e ≡ Fail p fill → MayStay c e → ⊥
-failing_goes e c p fill is may = subst (λ (x : Event). MayStay c x) is may
+failing_goes : (p : ℕ) (what : Happening) (c : Cluster) (fill : List ℕ) → what ≡ Fail fill → LeavesAll c p what → ⊥
+failing_goes p what c fill is may = subst (λ (x : Happening). LeavesAll c p x) is may
 
 pub unchanged : (at : ℕ) (e : Event) (old next : Cluster) → StepsInMemory at e old next → next.lines ≡ [] → MayStay (record next { lines = [] }) e → next ≡ old
 unchanged at e old next (inl is) none may =
-    is ∙ may_step at e old (ap (λ (c : Cluster). c.lines) (sym is) ∙ none) (subst (λ (c : Cluster). MayStay (record c { lines = [] }) e) is may)
-unchanged at e old next (inr ((p, fill, fails), is)) none may = absurd (failing_goes e (record next { lines = [] }) p fill fails may)
+    is ∙ may_step e.node at e.what old (ap (λ (c : Cluster). c.lines) (sym is) ∙ none) (subst (λ (c : Cluster). MayStay (record c { lines = [] }) e) is may)
+unchanged at e old next (inr ((fill, fails), is)) none may = absurd (failing_goes e.node e.what (record next { lines = [] }) fill fails may)
 
 -- ---- a text that hasn't grown
 

@@ -1,11 +1,13 @@
 -- A lively schedule told as text, with the report of its run.
 use Rattle.std.specs.Prelude.{◌≡◌, ℕ, ◌+◌, ◌*◌, ◌≤◌, List, [], ◌∷◌, ◌++◌, length, slice_get, Some, codes}
 use Rattle.std.specs.List.{AllByRecursion, flat_map}
+use Rattle.rr_types.specs.declared.event.NodeEvent.TheVariants.{Take, Send, Acknowledge}
 use Rattle.rr_node.specs.declared.event.Stance.TheVariants.{Resting}
 use Rattle.rr_node.specs.Seats.{Seat}
 use Rattle.rr_node.specs.Stances.{stance_of}
 use Rattle.rr_text.specs.declared.event.Event.{Event}
-use Rattle.rr_text.specs.declared.event.Event.TheVariants.{Take, Send, Ack}
+use Rattle.rr_text.specs.declared.event.Happening.{Happening}
+use Rattle.rr_text.specs.declared.event.Happening.TheVariants.{At}
 use Rattle.rr_text.specs.Lines.{nodes_line}
 use Rattle.rr_text.specs.ReportTexts.{line}
 use Rattle.rr_text.specs.Scheduled.{Scheduled, IsSchedule, IsEvent}
@@ -25,12 +27,16 @@ pub record IsSoFar (n at : ℕ) (kept : Cluster) (schedule report : List ℕ) : 
   pub printed : schedule ≡ nodes_line n ++ flat_map event_line events
   pub is_told : report ≡ told cluster.lines
 
--- events that leave everything as it was where nothing is told of them, by the cluster behind them
+-- what leaves everything at node p as it was where nothing is told of it, by the cluster behind it
+abbrev pub LeavesAll : Cluster → ℕ → Happening → Type 0
+LeavesAll c p (At Send) = Unit {0}
+LeavesAll c p (At Acknowledge) = Unit {0}
+LeavesAll c p (At Take) = (seat : Seat) × (slice_get c.seats p ≡ Some seat) × (stance_of seat.doing ≡ Resting)
+LeavesAll c p _ = ⊥
+
+-- an event of which that holds
 abbrev pub MayStay : Cluster → Event → Type 0
-MayStay c (Send p) = Unit {0}
-MayStay c (Ack p) = Unit {0}
-MayStay c (Take p) = (seat : Seat) × (slice_get c.seats p ≡ Some seat) × (stance_of seat.doing ≡ Resting)
-MayStay c _ = ⊥
+MayStay c e = LeavesAll c e.node e.what
 
 -- the text is that of a schedule of n nodes whose next event would stand on a line, a line `report`, and that of the report
 -- of the schedule's run

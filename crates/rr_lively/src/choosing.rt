@@ -7,7 +7,7 @@ use crate::random_run::RandomRun;
 use crate::stances::{Kind, node_at, stance_of};
 use rr_sim::{Cluster, Stance};
 use rr_text::{Event, EventKind};
-use rr_types::{NodeId, NodeSet};
+use rr_types::{Input, NodeEvent, NodeId, NodeSet};
 use std::alloc::AllocError;
 
 /// How many requests may be undecided before clients ask for no more.
@@ -113,14 +113,14 @@ impl RandomRun {
     ) -> Result<Option<Event>, AllocError> {
         match choice {
             EventKind::Hear => self.hear(cluster, node, detail),
-            EventKind::Send => Ok(Some(Event::Send { node })),
-            EventKind::Device => Ok(Some(Event::Device { node })),
+            EventKind::Send => Ok(Some(Event::at(node, NodeEvent::Send))),
+            EventKind::Device => Ok(Some(Event::at(node, NodeEvent::Device))),
             EventKind::Mark => {
                 self.mark(cluster, node)?;
-                Ok(Some(Event::Mark { node }))
+                Ok(Some(Event::at(node, NodeEvent::Mark)))
             }
-            EventKind::Ack => Ok(Some(Event::Ack { node })),
-            EventKind::Take => Ok(Some(Event::Take { node })),
+            EventKind::Ack => Ok(Some(Event::at(node, NodeEvent::Acknowledge))),
+            EventKind::Take => Ok(Some(Event::at(node, NodeEvent::Take))),
             EventKind::Submit => {
                 let event = self.submit(node, detail)?;
                 Ok(Some(event))
@@ -128,11 +128,7 @@ impl RandomRun {
             EventKind::Suspect => Ok(Some(self.trust(node))),
             EventKind::Tick => Ok(Some(self.tick(node))),
             // The others have no weight.
-            EventKind::Advance
-            | EventKind::Fail
-            | EventKind::Snap
-            | EventKind::Crash
-            | EventKind::Restart => Ok(None),
+            _ => Ok(None),
         }
     }
 
@@ -153,10 +149,7 @@ impl RandomRun {
         if let Some(message) = cluster.wire().get(number as usize) {
             memory.hear(message)?;
         }
-        Ok(Some(Event::Hear {
-            node,
-            message: number,
-        }))
+        Ok(Some(Event::told(node, Input::Hear(number))))
     }
 
     /// A node suspects nobody any more.
@@ -165,9 +158,6 @@ impl RandomRun {
             memory.stir();
             memory.suspects = false;
         }
-        Event::Suspect {
-            node,
-            set: NodeSet::empty(),
-        }
+        Event::told(node, Input::Suspect(NodeSet::empty()))
     }
 }

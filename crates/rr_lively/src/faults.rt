@@ -5,8 +5,8 @@ ghost use Rattle.std.specs.Prelude.{◌≡◌};
 use crate::random_run::RandomRun;
 use crate::stances::{Kind, first_from, node_at};
 use rr_sim::Cluster;
-use rr_text::{Event, Fill};
-use rr_types::{NodeId, NodeSet};
+use rr_text::{Event, Fill, Happening};
+use rr_types::{Input, NodeEvent, NodeId, NodeSet};
 use std::alloc::{AllocError, Global};
 
 /// A fault.
@@ -79,23 +79,25 @@ impl RandomRun {
             return Ok(None);
         };
         Ok(match fault {
-            Fault::Crash => Some(Event::Crash {
+            Fault::Crash => Some(Event {
                 node,
-                cut_0: cut_of(detail),
-                cut_1: cut_of(detail),
-                fill: fill_of(alloc, detail)?,
+                what: Happening::Crash {
+                    cut_0: cut_of(detail),
+                    cut_1: cut_of(detail),
+                    fill: fill_of(alloc, detail)?,
+                },
             }),
-            Fault::Fail => Some(Event::Fail {
+            Fault::Fail => Some(Event {
                 node,
-                fill: fill_of(alloc, detail)?,
+                what: Happening::Fail(fill_of(alloc, detail)?),
             }),
             Fault::Lose => self.lose(node, detail),
             Fault::Suspect => Some(self.suspect(node, detail)),
             Fault::Advance => self.advance(node),
             Fault::Tick => Some(self.tick(node)),
-            Fault::Snap => Some(Event::Snap { node }),
-            Fault::Restart => Some(Event::Restart { node }),
-            Fault::Refused => Some(Event::Tick { node }),
+            Fault::Snap => Some(Event::at(node, NodeEvent::Snap)),
+            Fault::Restart => Some(Event::at(node, NodeEvent::Restart)),
+            Fault::Refused => Some(Event::told(node, Input::Tick)),
         })
     }
 
@@ -129,10 +131,7 @@ impl RandomRun {
             drawn
         };
         self.stir_at(node, true);
-        Event::Suspect {
-            node,
-            set: NodeSet::empty().with(suspected),
-        }
+        Event::told(node, Input::Suspect(NodeSet::empty().with(suspected)))
     }
 
     /// A node that doesn't coordinate first rounds enters the next round.
@@ -141,12 +140,12 @@ impl RandomRun {
             return None;
         }
         self.stir_at(node, false);
-        Some(Event::Advance { node })
+        Some(Event::told(node, Input::Advance))
     }
 
     /// The heartbeat detector of a node ticks.
     pub(crate) fn tick(&mut self, node: NodeId) -> Event {
         self.stir_at(node, false);
-        Event::Tick { node }
+        Event::told(node, Input::Tick)
     }
 }

@@ -11,7 +11,7 @@ use rand_core::utils::NextWord;
 use rand_pcg::Pcg32;
 use rr_stream::{Sink, tell_step};
 use rr_text::Event;
-use rr_types::{NodeId, Nodes};
+use rr_types::{NodeEvent, NodeId, Nodes};
 use std::alloc::{AllocError, Global};
 
 /// How many steps in a thousand have a fault where nothing else is asked for.
@@ -54,9 +54,9 @@ fn open(alloc: Global, nodes: Nodes, node: NodeId, run: &mut Run) -> Result<(), 
     ensures so_far { OnOk result (IsSoFar nodes run.new.line run.new.cluster run.new.schedule.items run.new.report.items) }
     ensures line { OnOk result (run.new.line ≤ run.old.line + 10) }
 {
-    run.happen(alloc, nodes, &Event::Restart { node })?;
+    run.happen(alloc, nodes, &Event::at(node, NodeEvent::Restart))?;
     for _call in 0..CALLS_OF_AN_OPENING {
-        run.happen(alloc, nodes, &Event::Device { node })?;
+        run.happen(alloc, nodes, &Event::at(node, NodeEvent::Device))?;
     }
     Ok(())
 }

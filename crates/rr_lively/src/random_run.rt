@@ -5,8 +5,8 @@ ghost use Rattle.std.specs.Prelude.{◌≡◌};
 use crate::memory::Memory;
 use crate::stances::{Kind, count_of, first_from, node_at, node_behind, stance_of};
 use rr_sim::{Cluster, Stance};
-use rr_text::Event;
-use rr_types::{Command, Fact, Name, NodeId, Nodes, Op, RequestNo, Value};
+use rr_text::{Event, Happening};
+use rr_types::{Command, Fact, Input, Name, NodeEvent, NodeId, Nodes, Op, RequestNo, Value};
 use std::alloc::{AllocError, Global};
 use std::collections::BTreeSet;
 
@@ -48,19 +48,19 @@ impl RandomRun {
         event: &Event,
         is_kept: bool,
     ) -> Result<(), AllocError> {
-        let node = rr_sim::node_of(event);
+        let node = event.node;
         if let Some(memory) = self.memories.get_mut(usize::from(node.index())) {
-            match event {
-                Event::Send { .. } => memory.may_send = is_kept,
-                Event::Ack { .. } => memory.may_ack = is_kept,
-                Event::Take { .. } => memory.may_take = is_kept,
+            match event.what {
+                Happening::At(NodeEvent::Send) => memory.may_send = is_kept,
+                Happening::At(NodeEvent::Acknowledge) => memory.may_ack = is_kept,
+                Happening::At(NodeEvent::Take) => memory.may_take = is_kept,
                 _ => (),
             }
             if Kind::NotUp.has(stance_of(cluster, node)) {
                 memory.stop()?;
             }
         }
-        if is_kept && matches!(event, Event::Send { .. }) {
+        if is_kept && matches!(event.what, Happening::At(NodeEvent::Send)) {
             self.carry_last(cluster)?;
         }
         Ok(())
@@ -108,7 +108,7 @@ impl RandomRun {
         let stance = stance_of(cluster, node);
         match stance {
             Stance::Down | Stance::Failed => Ok(self.restart(cluster, node, word)),
-            Stance::Opening => Ok(Some(Event::Device { node })),
+            Stance::Opening => Ok(Some(Event::at(node, NodeEvent::Device))),
             _ => {
                 if let Some(memory) = self.memories.get_mut(usize::from(node.index())) {
                     memory.forget_idle(self.nodes, cluster.wire(), word / 4096);
@@ -124,7 +124,7 @@ impl RandomRun {
         let is_first = node.index() == node_at(nodes, 1).index();
         let running = count_of(nodes, cluster, Kind::Running);
         if is_first || running <= u32::from(nodes.count() / 2) || word / 256 % 256 == 0 {
-            Some(Event::Restart { node })
+            Some(Event::at(node, NodeEvent::Restart))
         } else {
             None
         }
@@ -196,14 +196,14 @@ impl RandomRun {
                 memory.ask(command.request)?;
             }
         }
-        Ok(Event::Submit { node, command })
+        Ok(Event::told(node, Input::Submit(command)))
     }
 
     /// Nobody has anything to do: a node is restarted, or a client asks for a new command, or a node whose round is
     /// behind another's enters the next round, or all nodes tick in turn.
     fn stir(&mut self, cluster: &Cluster, from: NodeId, word: u32) -> Result<Event, AllocError> {
         if let Some(node) = first_from(self.nodes, cluster, from, Kind::Down) {
-            return Ok(Event::Restart { node });
+            return Ok(Event::at(node, NodeEvent::Restart));
         }
         if word / 256 % 32 == 0 {
             for memory in &mut self.memories {
@@ -212,7 +212,7 @@ impl RandomRun {
             return self.submit(from, 1);
         }
         if let Some(node) = self.advance_behind(from)? {
-            return Ok(Event::Advance { node });
+            return Ok(Event::told(node, Input::Advance));
         }
         let node = node_at(self.nodes, self.quiet);
         self.quiet = self.quiet.wrapping_add(1);

@@ -5,11 +5,11 @@ ghost use Rattle.rr_text.specs.Scheduled.{IsEvent};
 ghost use Rattle.rr_text.specs.Words.{IsFill};
 ghost use Rattle.rr_lively.specs.Lively.{IsSoFar, MayStay, IsLivelyRun, IsScheduleTo};
 
-use rr_sim::{Cluster, Stance, decided_list, node_of};
+use rr_sim::{Cluster, Stance, decided_list};
 use rr_text::text_report::push_decided_list;
 use rr_text::text_schedule::{push_event_line, push_nodes_line};
-use rr_text::{Event, Fill, command_law};
-use rr_types::Nodes;
+use rr_text::{Event, Fill, Happening, command_law};
+use rr_types::{Input, NodeEvent, Nodes};
 use std::alloc::{AllocError, Global};
 
 /// The nodes behind the events so far, the line of the next event, and the texts of the schedule and of its report.
@@ -38,38 +38,27 @@ fn has_one_byte(fill: &Fill) -> bool
 fn is_event(nodes: Nodes, event: &Event) -> bool
     ensures { IsTrue result → IsEvent nodes event.now }
 {
-    if node_of(event).index() >= nodes.count() {
+    if event.node.index() >= nodes.count() {
         return false;
     }
-    match event {
-        Event::Suspect { set, .. } => u32::from(set.bits()) < 1 << nodes.count(),
-        Event::Submit { command, .. } => {
+    match &event.what {
+        Happening::At(NodeEvent::Told(Input::Suspect(set))) => {
+            u32::from(set.bits()) < 1 << nodes.count()
+        }
+        Happening::At(NodeEvent::Told(Input::Submit(command))) => {
             command_law(command);
             true
         }
-        Event::Hear { message, .. } => {
+        Happening::At(NodeEvent::Told(Input::Hear(message))) => {
             let _message = *message;
             true
         }
-        Event::Fail { fill, .. } => has_one_byte(fill),
-        Event::Crash {
-            cut_0,
-            cut_1,
-            fill,
-            ..
-        } => {
+        Happening::At(_) => true,
+        Happening::Fail(fill) => has_one_byte(fill),
+        Happening::Crash { cut_0, cut_1, fill } => {
             let _cuts = (*cut_0, *cut_1);
             has_one_byte(fill)
         }
-        Event::Tick { .. }
-        | Event::Advance { .. }
-        | Event::Take { .. }
-        | Event::Device { .. }
-        | Event::Mark { .. }
-        | Event::Send { .. }
-        | Event::Ack { .. }
-        | Event::Snap { .. }
-        | Event::Restart { .. } => true,
     }
 }
 
@@ -77,9 +66,9 @@ fn is_event(nodes: Nodes, event: &Event) -> bool
 fn may_stay(cluster: &Cluster, event: &Event) -> bool
     ensures { IsTrue result → MayStay cluster.now event.now }
 {
-    match event {
-        Event::Send { .. } | Event::Ack { .. } => true,
-        Event::Take { node } => match cluster.node(*node) {
+    match event.what {
+        Happening::At(NodeEvent::Send | NodeEvent::Acknowledge) => true,
+        Happening::At(NodeEvent::Take) => match cluster.node(event.node) {
             Some(seat) => seat.stance() == Stance::Resting,
             None => false,
         },

@@ -1,13 +1,14 @@
 //! Whether an event is of these nodes. All else that the grammar of tapes asks of an event is kept by its types.
 
 ghost use Rattle.std.specs.Prelude.{◌≡◌, ◌↔◌, ◌<◌, ◌^◌, IsTrue};
-ghost use Rattle.rr_tape.specs.Taped.{IsInstance, IsRound, IsEstimate, IsBody, IsMessage, IsRequest, IsReply, IsTapeEvent};
+ghost use Rattle.rr_tape.specs.Taped.{IsInstance, IsRound, IsEstimate, IsBody, IsMessage, IsRequest, IsReply, IsRecorded, IsTapeEvent};
+ghost use Rattle.rr_text.specs.Scheduled.{IsInput};
 
-use rr_tape::TapeEvent;
+use rr_tape::{Recorded, TapeEvent};
 use rr_text::command_law;
 use rr_types::{
-    Body, Command, Estimate, Instance, Message, NodeId, NodeSet, Nodes, Op, Reply, RequestNo,
-    Round, made_of,
+    Body, Command, Estimate, Input, Instance, Message, NodeId, NodeSet, Nodes, Op, Reply,
+    RequestNo, Round, made_of,
 };
 
 /// The numbers of a request are in their ranges. It does nothing when it runs, as the laws below.
@@ -115,37 +116,48 @@ fn is_message_among(nodes: Nodes, message: &Message) -> bool
         && is_body_among(nodes, &message.body)
 }
 
+/// Whether an input is of these nodes.
+fn is_input_among(nodes: Nodes, input: &Input<u32>) -> bool
+    ensures { IsTrue result ↔ IsInput nodes input.now }
+{
+    made_of!(Command, Op);
+    match input {
+        Input::Submit(command) => {
+            command_law(command);
+            true
+        }
+        Input::Hear(number) => {
+            let _number = *number;
+            true
+        }
+        Input::Suspect(set) => has_all(nodes, *set),
+        _ => true,
+    }
+}
+
+/// Whether what a tape has of this node is of these nodes. A message that was sent is from the node.
+fn is_recorded_among(nodes: Nodes, node: NodeId, what: &Recorded) -> bool
+    ensures { IsTrue result ↔ IsRecorded nodes node what.now }
+{
+    made_of!(Body, Command, Estimate, Message, Op, Reply);
+    match what {
+        Recorded::Told(input) => is_input_among(nodes, input),
+        Recorded::Take | Recorded::Mark => true,
+        Recorded::Sent { number, message } => {
+            let _number = *number;
+            message.from == node && is_message_among(nodes, message)
+        }
+        Recorded::Acked { request, reply } => {
+            request_law(*request);
+            reply_law(*reply);
+            true
+        }
+    }
+}
+
 /// Whether an event is of these nodes.
 pub fn is_among(nodes: Nodes, event: &TapeEvent) -> bool
     ensures { IsTrue result ↔ IsTapeEvent nodes event.now }
 {
-    made_of!(Body, Command, Estimate, Message, Op, Reply);
-    match event {
-        TapeEvent::Submit { node, command } => {
-            command_law(command);
-            has_node(nodes, *node)
-        }
-        TapeEvent::Hear { node, message } => {
-            let _number = *message;
-            has_node(nodes, *node)
-        }
-        TapeEvent::Suspect { node, set } => has_node(nodes, *node) && has_all(nodes, *set),
-        TapeEvent::Tick { node } => has_node(nodes, *node),
-        TapeEvent::Advance { node } => has_node(nodes, *node),
-        TapeEvent::Take { node } => has_node(nodes, *node),
-        TapeEvent::Mark { node } => has_node(nodes, *node),
-        TapeEvent::Send { number, message } => {
-            let _number = *number;
-            is_message_among(nodes, message)
-        }
-        TapeEvent::Ack {
-            node,
-            request,
-            reply,
-        } => {
-            request_law(*request);
-            reply_law(*reply);
-            has_node(nodes, *node)
-        }
-    }
+    has_node(nodes, event.node) && is_recorded_among(nodes, event.node, &event.what)
 }

@@ -10,7 +10,7 @@ ghost use Rattle.rr_core.specs.Covered.{LeavesCovered};
 
 use rr_core::{Cleared, Core};
 use rr_journal::Synced;
-use rr_types::{Group, Input, NodeId, Refusal, Reply, RequestNo};
+use rr_types::{Group, Input, Message, NodeId, Refusal, Reply, RequestNo};
 use std::marker::Model;
 
 /// A node as its threads share it, one at a time. Whenever none of them is inside a call, each message that may leave is
@@ -71,7 +71,7 @@ impl Locked {
 
     /// The node is told this. A new command while all instances are decided here is `ListFull`, an advance out of the last
     /// round `RoundsOut`, both even where memory runs out. It is `TooLarge` where a fact would have no number.
-    pub fn step(&mut self, input: &Input) -> Result<(), Refusal>
+    pub fn step(&mut self, input: &Input<Message>) -> Result<(), Refusal>
         ensures ok { OnOk result (self.new ≡ node_step input.now self.old) }
         ensures allowed { OnOk result (refusal_of input.now self.old ≡ None) }
         ensures order { (e : Refusal) → input_refusal input.now self.old ≡ Some e → result ≡ Err e }

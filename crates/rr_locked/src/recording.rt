@@ -4,7 +4,7 @@ ghost use Rattle.std.specs.Prelude.{◌≡◌, ◌≤◌, [], length, OnOk, OnEr
 ghost use Rattle.rr_locked.specs.Recorded.{sent_on, with_event, HasNoPlace};
 
 use crate::among::is_among;
-use rr_tape::{Tape, TapeEvent};
+use rr_tape::{Recorded, Tape, TapeEvent};
 use rr_text::MAX_EVENTS;
 use rr_types::{Body, Command, Estimate, Message, Nodes, Op, Refusal, Reply, made_of};
 use std::alloc::Global;
@@ -68,7 +68,7 @@ impl Recording {
             return Err(Refusal::BadEvent(self.events.len() as u64 + 2));
         }
         self.events.push(*event)?;
-        if let TapeEvent::Send { .. } = event {
+        if let Recorded::Sent { .. } = event.what {
             self.sent += 1;
         }
         Ok(())

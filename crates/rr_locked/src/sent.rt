@@ -49,7 +49,7 @@ impl Sent {
     }
 
     /// What a node is told that hears it.
-    pub fn input(&self) -> Input
+    pub fn input(&self) -> Input<Message>
         ensures { result ≡ told.Hear self.now.message }
     {
         Input::Hear(self.cleared.message())

@@ -63,16 +63,14 @@ stages_at : (p : ℕ) (fs : List Fact) → AreStepsAt p (map (Stage p) fs)
 stages_at p [] = tt
 stages_at p (f ∷ fs) = (refl, stages_at p fs)
 
-input_at : (p : ℕ) (input : Input) → AreStepsAt p (step_of_input p input)
+input_at : (p : ℕ) (input : Input Message) → AreStepsAt p (step_of_input p input)
 input_at p (told.Submit c) = (refl, tt)
-input_at p (told.Suspect set) = tt
-input_at p told.Tick = tt
-input_at p told.Advance = tt
 input_at p (told.Hear m) = at (m.to == p)
   where
     at : (b : Bool) → AreStepsAt p (if b then Hear p m ∷ [] else [])
     at true = (refl, tt)
     at false = tt
+input_at p input = tt
 
 -- the steps of an event are at its node
 pub event_at : (p : ℕ) (s : NodeState) (e : NodeEvent) → AreStepsAt p (steps_of_event p s e)
@@ -104,16 +102,14 @@ stages_quietly : (p : ℕ) (w : World) (fs : List Fact) → IsAsQuiet w (after_s
 stages_quietly p w [] = record { wire = refl; trace = refl }
 stages_quietly p w (f ∷ fs) = let q : IsAsQuiet (after_step w (Stage p f)) (after_steps (after_step w (Stage p f)) (map (Stage p) fs)) = stages_quietly p (after_step w (Stage p f)) fs in record { wire = q.wire; trace = q.trace }
 
-input_quietly : (p : ℕ) (w : World) (input : Input) → IsAsQuiet w (after_steps w (step_of_input p input))
+input_quietly : (p : ℕ) (w : World) (input : Input Message) → IsAsQuiet w (after_steps w (step_of_input p input))
 input_quietly p w (told.Submit c) = record { wire = refl; trace = refl }
-input_quietly p w (told.Suspect set) = record { wire = refl; trace = refl }
-input_quietly p w told.Tick = record { wire = refl; trace = refl }
-input_quietly p w told.Advance = record { wire = refl; trace = refl }
 input_quietly p w (told.Hear m) = at (m.to == p)
   where
     at : (b : Bool) → IsAsQuiet w (after_steps w (if b then Hear p m ∷ [] else []))
     at true = record { wire = refl; trace = refl }
     at false = record { wire = refl; trace = refl }
+input_quietly p w input = record { wire = refl; trace = refl }
 
 says_nothing : (w v : World) → IsAsQuiet w v → (v.wire ≡ w.wire ++ []) × (v.trace ≡ w.trace ++ [])
 says_nothing w v q = (q.wire ∙ sym (append-nil w.wire), q.trace ∙ sym (append-nil w.trace))

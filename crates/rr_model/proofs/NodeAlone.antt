@@ -284,7 +284,7 @@ flush i round calm n p c s w = and_then i round calm n p c s w (λ t v. AllMarke
     })))
 
 -- an input is taken in, and all is marked and sent
-pub takes : (i round : ℕ) (calm : ℕ → Type 0) (n p : ℕ) (c : Command) (s : NodeState) (w : List Message) (input : Input) → MayHappenAt w c s (Told input) → IsProperInput n input → Keeps i round (calm p) s (node_step input s) → Comes i round calm n p c s w (Flushed (node_step input s))
+pub takes : (i round : ℕ) (calm : ℕ → Type 0) (n p : ℕ) (c : Command) (s : NodeState) (w : List Message) (input : Input Message) → MayHappenAt w c s (Told input) → IsProperInput n input → Keeps i round (calm p) s (node_step input s) → Comes i round calm n p c s w (Flushed (node_step input s))
 takes i round calm n p c s w input m r k =
     let b : Comes i round calm n p c (node_step input s) (w ++ []) (Flushed (node_step input s)) = flush i round calm n p c (node_step input s) (w ++ []) in
     record { to = b.to; sent = b.sent; alone = alone_on n p c s w (node_step input s) (w ++ []) b.to b.sent (Does s w (Told input) Rests m r) b.alone; keeps = keeps_on i round (calm p) s (node_step input s) b.to k b.keeps; goal = b.goal }

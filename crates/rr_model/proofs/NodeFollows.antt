@@ -16,7 +16,7 @@ use Rattle.rr_model.specs.World.{World, Step, Stage, Settle, Send, Acknowledge, 
 use Rattle.rr_model.specs.Laws.{after_steps}
 use Rattle.rr_model.specs.NodeState.{NodeState}
 use Rattle.rr_types.specs.declared.input.Input.{Input}
-use Rattle.rr_types.specs.declared.input.Input.TheVariants.{Submit, Suspect, Tick, Advance, Hear}
+use Rattle.rr_types.specs.declared.input.Input.TheVariants.{Submit, Hear}
 use Rattle.rr_model.specs.NodeStep.{node_step, group_taken, group_put_back, marked_running, message_left, acknowledged, next_leaving, next_acknowledged, started}
 use Rattle.rr_model.specs.NodeLaws.{IsOfSubmitted, hear_message, hear_command, AreLawful, NodeEvent, Told, Grouped, PutBack, Marked, Left, Answered, after_event, heard_input, heard_after, IsEventOfNodes, AreEventsOfNodes, facts_of_input, facts_of_event, marked_facts, IsTruthful}
 use Rattle.rr_model.specs.NodeWorld.{step_of_input, told_reply, IsAtNode, IsInputOfWorld, IsRunOfSteps, FollowsTheWorld, IsWorldlyNode}
@@ -63,7 +63,7 @@ stage_run n p kept staged h w (f ∷ fs) A l =
     ((((A.exists, A.up), here), rest.0), subst (λ z. IsAt n p kept z h (after_steps (after_step w (Stage p f)) (map (Stage p) fs))) (append_assoc staged (f ∷ []) fs) rest.1)
 
 -- an input, where it is a step
-pub input_run : (n p : ℕ) (kept staged : List Fact) (h : Heard) (w : World) (input : Input) → IsInputOfWorld w p input → IsAt n p kept staged h w → IsRunFrom n w (step_of_input p input) × IsAt n p kept staged (heard_input p h input) (after_steps w (step_of_input p input))
+pub input_run : (n p : ℕ) (kept staged : List Fact) (h : Heard) (w : World) (input : Input Message) → IsInputOfWorld w p input → IsAt n p kept staged h w → IsRunFrom n w (step_of_input p input) × IsAt n p kept staged (heard_input p h input) (after_steps w (step_of_input p input))
 input_run n p kept staged h w (Submit c) x A = (
   ((A.exists, A.up), tt),
   record {
@@ -78,9 +78,6 @@ input_run n p kept staged h w (Submit c) x A = (
     ];
   },
 )
-input_run n p kept staged h w (Suspect set) x A = (tt, A)
-input_run n p kept staged h w Tick x A = (tt, A)
-input_run n p kept staged h w Advance x A = (tt, A)
 input_run n p kept staged h w (Hear m) x A = at (m.to == p) refl
   where
     at : (b : Bool) → (m.to == p) ≡ b → IsRunFrom n w (if b then world.Hear p m ∷ [] else []) × IsAt n p kept staged (if b then hear_message h m else h) (after_steps w (if b then world.Hear p m ∷ [] else []))
@@ -96,6 +93,7 @@ input_run n p kept staged h w (Hear m) x A = at (m.to == p) refl
       },
     )
     at false e = (tt, A)
+input_run n p kept staged h w input x A = (tt, A)
 
 module _ (n p : ℕ) (facts : List Fact) (h : Heard) (s : NodeState) (w : World) where
   -- the world as a node has it, by what the node knows
@@ -123,7 +121,7 @@ module _ (X : Type 0) (known : X) (n p : ℕ) (facts : List Fact) (h : Heard) (s
       let c : s.marked_end ≡ length K.kept = K.count in
       omega arith
 
-  told_run : (input : Input) → IsEventOfNodes n (Told input) → IsRunOfSteps n p facts h s (Told input)
+  told_run : (input : Input Message) → IsEventOfNodes n (Told input) → IsRunOfSteps n p facts h s (Told input)
   told_run input x w A y =
       let t : NodeState = node_step input s in
       let new : List Fact = facts_of_input s input in

@@ -235,22 +235,20 @@ module _ (X : Type 0) (n p : ℕ) (h : Heard) where
       at (Some i) e = enter_goes X n p facts h s i (round_of (standing_at s i) + 1) None K (in_round_undecided (standing_at s i) (in_some_round s (open_instances s) i e)) (omega arith) (λ v x. absurd (none-some v x))
 
 -- what was heard before an input, and the input
-heard_grows : (p : ℕ) (h : Heard) (input : Input) → Within h (heard_input p h input)
+heard_grows : (p : ℕ) (h : Heard) (input : Input Message) → Within h (heard_input p h input)
 heard_grows p h (Submit c) = record { messages = λ m x. x; commands = λ d x. Contains-append_left h.commands (c ∷ []) d x }
-heard_grows p h (Suspect set) = record { messages = λ m x. x; commands = λ d x. x }
-heard_grows p h Tick = record { messages = λ m x. x; commands = λ d x. x }
-heard_grows p h Advance = record { messages = λ m x. x; commands = λ d x. x }
 heard_grows p h (Hear m) = at (m.to == p)
   where
     at : (b : Bool) → Within h (if b then hear_message h m else h)
     at true = record { messages = λ k x. Contains-append_left h.messages (m ∷ []) k x; commands = λ d x. x }
     at false = record { messages = λ k x. x; commands = λ d x. x }
+heard_grows p h input = record { messages = λ m x. x; commands = λ d x. x }
 
 said_now : (h : Heard) (m : Message) → Says (hear_message h m).messages m.from m.body
 said_now h m = (m.to, Contains-push h.messages m)
 
 -- what an input does at once is lawful
-taken_goes : (X : Type 0) (n p : ℕ) (facts : List Fact) (h : Heard) (s : NodeState) (input : Input) → IsInputOfNodes n input → Knows X n p facts (heard_input p h input) s → Goes X n p facts (heard_input p h input) s (taken_in input s)
+taken_goes : (X : Type 0) (n p : ℕ) (facts : List Fact) (h : Heard) (s : NodeState) (input : Input Message) → IsInputOfNodes n input → Knows X n p facts (heard_input p h input) s → Goes X n p facts (heard_input p h input) s (taken_in input s)
 unfolding taken_in
 taken_goes X n p facts h s (Submit c) x K = submitted_goes X n p (heard_input p h (Submit c)) facts s c (Contains-push h.commands c) K
 taken_goes X n p facts h s (Suspect set) x K = goes_alike X n p facts h s _ (record { nodes = refl; node = refl; rows = refl; pool = refl; staged = refl; running = refl; marked = refl; marked_end = refl; owed = λ x o c. inl c }) K
@@ -265,5 +263,5 @@ taken_goes X n p facts h s (Hear m) x K = at (m.to == p) (m.to == s.node) (ap (�
     at false false e A = goes_nowhere X n p facts h s A
 
 -- and so from what it knew before the input
-pub input_goes : (X : Type 0) (n p : ℕ) (facts : List Fact) (h : Heard) (s : NodeState) (input : Input) → IsInputOfNodes n input → Knows X n p facts h s → Goes X n p facts (heard_input p h input) s (taken_in input s)
+pub input_goes : (X : Type 0) (n p : ℕ) (facts : List Fact) (h : Heard) (s : NodeState) (input : Input Message) → IsInputOfNodes n input → Knows X n p facts h s → Goes X n p facts (heard_input p h input) s (taken_in input s)
 input_goes X n p facts h s input x K = taken_goes X n p facts h s input x (knows_grows X n p facts h (heard_input p h input) s (heard_grows p h input) K)

@@ -68,7 +68,7 @@ module _ (n p : ℕ) (facts : List Fact) (h : Heard) (s : NodeState) (R : IsReac
       omega arith
 
   -- an input and the facts that it stages
-  told_in_world : (b : Bool) (input : Input) → IsProperEvent n (Told input) → IsRunInWorld b n p facts h s (Told input)
+  told_in_world : (b : Bool) (input : Input Message) → IsProperEvent n (Told input) → IsRunInWorld b n p facts h s (Told input)
   told_in_world b input x w A y =
       let kept : List Fact = marked_facts facts s ++ (if b then group_of s else []) in
       let held : List Fact = (if b then [] else group_of s) ++ s.staged in

@@ -9,7 +9,8 @@ use Rattle.rr_types.specs.Promises.{promise_of, all_fit}
 use Rattle.rr_model.specs.Lawful.{Heard}
 use Rattle.rr_model.specs.NodeState.{NodeState}
 use Rattle.rr_types.specs.declared.input.Input.{Input}
-use Rattle.rr_types.specs.declared.input.Input.TheVariants.{Submit, Suspect, Tick, Advance, Hear}
+use Rattle.rr_types.specs.declared.message.Message.{Message}
+use Rattle.rr_types.specs.declared.input.Input.TheVariants.{Hear}
 use Rattle.rr_model.specs.NodeStep.{node_step}
 use Rattle.rr_model.specs.NodeLaws.{AreLawful, NodeEvent, Told, Grouped, PutBack, Marked, Left, Answered, after_event, heard_input, heard_after, IsInputOfNodes, IsEventOfNodes, facts_of_event, marked_facts, IsTruthful}
 use Rattle.rr_model.specs.NodeReached.{IsProperInput, IsProperEvent, IsReached, Opened, Happened, StagesLawfully, IsItself}
@@ -20,12 +21,9 @@ use Rattle.rr_model.proofs.NodeKnows.{in_flight, Knows}
 use Rattle.rr_model.proofs.NodeStages.{Fitting, Steps, steps, step_goes, event_knows, moment, started_knows}
 
 -- a proper event is from the nodes
-input_of_nodes : (n : ℕ) (input : Input) → IsProperInput n input → IsInputOfNodes n input
-input_of_nodes n (Submit c) x = tt
-input_of_nodes n (Suspect set) x = tt
-input_of_nodes n Tick x = tt
-input_of_nodes n Advance x = tt
+input_of_nodes : (n : ℕ) (input : Input Message) → IsProperInput n input → IsInputOfNodes n input
 input_of_nodes n (Hear m) x = x.0
+input_of_nodes n input x = tt
 
 pub event_of_nodes : (n : ℕ) (e : NodeEvent) → IsProperEvent n e → IsEventOfNodes n e
 event_of_nodes n (Told input) x = input_of_nodes n input x

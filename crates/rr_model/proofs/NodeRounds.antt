@@ -329,7 +329,7 @@ body_in q Beat s l I = same s _ refl refl I
 body_in q (Suspects set) s l I = same s _ refl refl I
 body_in q (Ask i) s l I = answer_in i q s I
 
-taken_stays_in : (n : ℕ) (input : Input) (s : NodeState) → IsProperInput n input → IsInRounds s → IsInRounds (taken_in input s)
+taken_stays_in : (n : ℕ) (input : Input Message) (s : NodeState) → IsProperInput n input → IsInRounds s → IsInRounds (taken_in input s)
 unfolding taken_in
 taken_stays_in n (Submit c) s x I = submitted_in c s I
 taken_stays_in n (Suspect set) s x I = same s _ refl refl I
@@ -337,7 +337,7 @@ taken_stays_in n Tick s x I = ticked_in s I
 taken_stays_in n Advance s x I = advanced_in s I
 taken_stays_in n (Hear m) s x I = either _ s (m.to == s.node) (λ b. body_in m.from m.body s x.1 I) I
 
-input_in : (n : ℕ) (input : Input) (s : NodeState) → IsProperInput n input → IsInRounds s → IsInRounds (node_step input s)
+input_in : (n : ℕ) (input : Input Message) (s : NodeState) → IsProperInput n input → IsInRounds s → IsInRounds (node_step input s)
 unfolding node_step
 input_in n input s x I = settle_in (taken_in input s) (taken_stays_in n input s x I)
 

@@ -33,7 +33,7 @@ use Rattle.rr_model.proofs.NodePrefixes.{same_prefix, held_has_reply}
 use Rattle.rr_model.proofs.NodeHears.{input_goes}
 
 -- a node's step stages lawful facts
-pub step_goes : (X : Type 0) (n p : ℕ) (facts : List Fact) (h : Heard) (s : NodeState) (input : Input) → IsInputOfNodes n input → Knows X n p facts h s → Goes X n p facts (heard_input p h input) s (node_step input s)
+pub step_goes : (X : Type 0) (n p : ℕ) (facts : List Fact) (h : Heard) (s : NodeState) (input : Input Message) → IsInputOfNodes n input → Knows X n p facts h s → Goes X n p facts (heard_input p h input) s (node_step input s)
 unfolding node_step
 step_goes X n p facts h s input x K = goes_on X n p facts (heard_input p h input) s (taken_in input s) (settle (taken_in input s)) (input_goes X n p facts h s input x K) (λ all A. settle_goes X n p all (heard_input p h input) (taken_in input s) A)
 

@@ -21,6 +21,7 @@ use Rattle.rr_model.specs.NodeDetector.{all_ticked, late_nodes}
 use Rattle.rr_model.specs.NodeParts.{owe, pool_add, stage, backing_at, leave_round, enter_with, entering_estimate, enter, restate, restate_all, conclude, propose}
 use Rattle.rr_model.specs.NodeDue.{Due, Begin, Offer, Conclude, MoveOn, due, carry_out, settle_within, settle}
 use Rattle.rr_types.specs.declared.input.Input.{Input}
+use Rattle.rr_types.specs.declared.message.Message.{Message}
 use Rattle.rr_types.specs.declared.input.Input.TheVariants.{Submit, Suspect, Tick, Advance, Hear}
 use Rattle.rr_model.specs.NodeStep.{is_waiting, wait_for, submitted, is_list_full, is_behind, ask, ticked_on, lowest_in_round, advanced, with_vote, change_tally, count_estimate, count_ack, count_nack, catch_up, acknowledge, take_proposal, take_estimate, has_proposed, answer, if_open, heard_body, taken_in, node_step, restored, started}
 use Rattle.rr_model.specs.NodeStays.{StaysMarked}
@@ -193,7 +194,7 @@ body_stays q Beat s = record { nodes = refl; node = refl; marked = refl; marked_
 body_stays q (Suspects set) s = record { nodes = refl; node = refl; marked = refl; marked_end = refl; running = refl }
 body_stays q (Ask i) s = answer_stays i q s
 
-taken_stays : (input : Input) (s : NodeState) → StaysMarked s (taken_in input s)
+taken_stays : (input : Input Message) (s : NodeState) → StaysMarked s (taken_in input s)
 unfolding taken_in
 taken_stays (Submit c) s = submitted_stays c s
 taken_stays (Suspect set) s = record { nodes = refl; node = refl; marked = refl; marked_end = refl; running = refl }
@@ -202,7 +203,7 @@ taken_stays Advance s = advanced_stays s
 taken_stays (Hear m) s = either s _ s (m.to == s.node) (body_stays m.from m.body s) (itself s)
 
 -- whatever a node is told, it marks nothing
-pub input_stays : (input : Input) (s : NodeState) → StaysMarked s (node_step input s)
+pub input_stays : (input : Input Message) (s : NodeState) → StaysMarked s (node_step input s)
 unfolding node_step
 input_stays input s = further s (taken_in input s) _ (taken_stays input s) (settle_stays (taken_in input s))
 

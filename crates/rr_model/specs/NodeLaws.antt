@@ -15,7 +15,7 @@ use Rattle.rr_model.specs.World as world
 use Rattle.rr_model.specs.World.{nothing_heard}
 use Rattle.rr_model.specs.NodeState.{NodeState, Owed, decided_prefix}
 use Rattle.rr_types.specs.declared.input.Input.{Input}
-use Rattle.rr_types.specs.declared.input.Input.TheVariants.{Submit, Suspect, Tick, Advance, Hear}
+use Rattle.rr_types.specs.declared.input.Input.TheVariants.{Submit, Hear}
 use Rattle.rr_model.specs.NodeStep.{node_step, group_taken, group_put_back, marked_running, message_left, next_leaving, next_acknowledged, acknowledged, started}
 
 -- the facts are lawful for node p of n one after another, behind those before them, after what it heard
@@ -26,7 +26,7 @@ AreLawful n p before h (f ∷ fs) = IsLawful n p before h f × AreLawful n p (be
 -- what happens at a node that is up
 pub data NodeEvent : Type 0 where
   -- an input comes in
-  Told : Input → NodeEvent
+  Told : Input Message → NodeEvent
   -- its oldest staged facts become the running group, where none runs
   Grouped : NodeEvent
   -- the running group is staged again
@@ -56,12 +56,10 @@ abbrev pub hear_command : Heard → Command → Heard
 hear_command h c = record { messages = h.messages; commands = h.commands ++ c ∷ [] }
 
 -- what node p has heard, this input included: messages for it, and commands submitted to it
-abbrev pub heard_input : ℕ → Heard → Input → Heard
+abbrev pub heard_input : ℕ → Heard → Input Message → Heard
 heard_input p h (Submit c) = hear_command h c
-heard_input p h (Suspect set) = h
-heard_input p h Tick = h
-heard_input p h Advance = h
 heard_input p h (Hear m) = if m.to == p then hear_message h m else h
+heard_input p h _ = h
 
 -- what node p has heard once this event has happened
 abbrev pub heard_after : ℕ → Heard → NodeEvent → Heard
@@ -73,12 +71,9 @@ heard_after p h Left = h
 heard_after p h Answered = h
 
 -- a message that is heard is from one of the n nodes
-abbrev pub IsInputOfNodes : ℕ → Input → Type 0
-IsInputOfNodes n (Submit c) = Unit {0}
-IsInputOfNodes n (Suspect set) = Unit {0}
-IsInputOfNodes n Tick = Unit {0}
-IsInputOfNodes n Advance = Unit {0}
+abbrev pub IsInputOfNodes : ℕ → Input Message → Type 0
 IsInputOfNodes n (Hear m) = m.from < n
+IsInputOfNodes n _ = Unit {0}
 
 -- the same of an event
 abbrev pub IsEventOfNodes : ℕ → NodeEvent → Type 0
@@ -95,7 +90,7 @@ AreEventsOfNodes n [] = Unit {0}
 AreEventsOfNodes n (e ∷ es) = IsEventOfNodes n e × AreEventsOfNodes n es
 
 -- the facts that an input stages: those behind what was staged
-abbrev pub facts_of_input : NodeState → Input → List Fact
+abbrev pub facts_of_input : NodeState → Input Message → List Fact
 facts_of_input s input = drop (length s.staged) (node_step input s).staged
 
 -- the facts that an event stages; only inputs stage any

@@ -7,7 +7,8 @@ use Rattle.rr_model.specs.Lawful.{Heard}
 use Rattle.rr_model.specs.World.{nothing_heard}
 use Rattle.rr_model.specs.NodeState.{NodeState}
 use Rattle.rr_types.specs.declared.input.Input.{Input}
-use Rattle.rr_types.specs.declared.input.Input.TheVariants.{Submit, Suspect, Tick, Advance, Hear}
+use Rattle.rr_types.specs.declared.message.Message.{Message}
+use Rattle.rr_types.specs.declared.input.Input.TheVariants.{Hear}
 use Rattle.rr_model.specs.NodeStep.{started}
 use Rattle.rr_model.specs.NodeLaws.{AreLawful, NodeEvent, Told, Grouped, PutBack, Marked, Left, Answered, after_event, heard_after, facts_of_event, StagesBehind, marked_facts}
 
@@ -24,12 +25,9 @@ NamesRounds (Suspects set) = Unit {0}
 NamesRounds (Ask i) = Unit {0}
 
 -- what may come to a node of n: a message is from one of the nodes and names rounds above 0
-abbrev pub IsProperInput : ℕ → Input → Type 0
-IsProperInput n (Submit c) = Unit {0}
-IsProperInput n (Suspect set) = Unit {0}
-IsProperInput n Tick = Unit {0}
-IsProperInput n Advance = Unit {0}
+abbrev pub IsProperInput : ℕ → Input Message → Type 0
 IsProperInput n (Hear m) = (m.from < n) × NamesRounds m.body
+IsProperInput n _ = Unit {0}
 
 -- the same of an event
 abbrev pub IsProperEvent : ℕ → NodeEvent → Type 0

@@ -151,7 +151,7 @@ abbrev pub heard : Message → NodeState → NodeState
 heard m s = if m.to == s.node then heard_body m.from m.body s else s
 
 -- what an input does at once
-unfoldable pub taken_in : Input → NodeState → NodeState
+unfoldable pub taken_in : Input Message → NodeState → NodeState
 taken_in (Submit c) s = submitted c s
 taken_in (Suspect set) s = record s { suspects = set }
 taken_in Tick s = ticked_on s
@@ -159,7 +159,7 @@ taken_in Advance s = advanced s
 taken_in (Hear m) s = heard m s
 
 -- the node's step: what the input does, and then all that is due
-unfoldable pub node_step : Input → NodeState → NodeState
+unfoldable pub node_step : Input Message → NodeState → NodeState
 node_step input s = settle (taken_in input s)
 
 -- why a submit is refused: a new request, with all instances decided here
@@ -171,7 +171,7 @@ abbrev pub advance_refusal : NodeState → Option Refusal
 advance_refusal s = option_map_or (λ i. if round_of (standing_at s i) == last_round then Some RoundsOut else None) (lowest_in_round s) None
 
 -- why an input is refused for what it is
-abbrev pub input_refusal : Input → NodeState → Option Refusal
+abbrev pub input_refusal : Input Message → NodeState → Option Refusal
 input_refusal (Submit c) s = submit_refusal c s
 input_refusal (Suspect set) s = None
 input_refusal Tick s = None
@@ -179,7 +179,7 @@ input_refusal Advance s = advance_refusal s
 input_refusal (Hear m) s = None
 
 -- why an input is refused, memory aside: for what it is, or where it would bring the next fact number past 2^64 - 1
-unfoldable pub refusal_of : Input → NodeState → Option Refusal
+unfoldable pub refusal_of : Input Message → NodeState → Option Refusal
 refusal_of input s = first (input_refusal input s)
   where
     first : Option Refusal → Option Refusal

@@ -14,17 +14,15 @@ use Rattle.rr_model.specs.World.{World, Step, Stage, Settle, Send, Acknowledge, 
 use Rattle.rr_model.specs.Laws.{after_steps}
 use Rattle.rr_model.specs.NodeState.{NodeState, decided_prefix}
 use Rattle.rr_types.specs.declared.input.Input.{Input}
-use Rattle.rr_types.specs.declared.input.Input.TheVariants.{Submit, Suspect, Tick, Advance, Hear}
+use Rattle.rr_types.specs.declared.input.Input.TheVariants.{Submit, Hear}
 use Rattle.rr_model.specs.NodeStep.{next_leaving, next_acknowledged, started}
 use Rattle.rr_model.specs.NodeLaws.{NodeEvent, Told, Grouped, PutBack, Marked, Left, Answered, after_event, heard_after, AreEventsOfNodes, facts_of_input, facts_of_event, HasRound, marked_facts}
 
 -- what an input is in the world: a submit or a message for the node is a step, the rest is the node's own affair
-abbrev pub step_of_input : ℕ → Input → List Step
+abbrev pub step_of_input : ℕ → Input Message → List Step
 step_of_input p (Submit c) = world.Submit p c ∷ []
-step_of_input p (Suspect set) = []
-step_of_input p Tick = []
-step_of_input p Advance = []
 step_of_input p (Hear m) = if m.to == p then world.Hear p m ∷ [] else []
+step_of_input p _ = []
 
 -- the reply that the node tells to a request
 abbrev pub told_reply : NodeState → RequestNo → Option Reply
@@ -52,12 +50,9 @@ pub record IsAtNode (n p : ℕ) (facts : List Fact) (h : Heard) (s : NodeState) 
   pub submitted : (c : Command) → Contains h.commands c → Contains w.submitted c
 
 -- a message may be heard only from the wire
-abbrev pub IsInputOfWorld : World → ℕ → Input → Type 0
-IsInputOfWorld w p (Submit c) = Unit {0}
-IsInputOfWorld w p (Suspect set) = Unit {0}
-IsInputOfWorld w p Tick = Unit {0}
-IsInputOfWorld w p Advance = Unit {0}
+abbrev pub IsInputOfWorld : World → ℕ → Input Message → Type 0
 IsInputOfWorld w p (Hear m) = m.to ≡ p → Contains w.wire m
+IsInputOfWorld w p _ = Unit {0}
 
 -- where an event may come: its message is on the wire, or the one that leaves has a round above 0
 abbrev pub MayCome : World → ℕ → NodeState → NodeEvent → Type 0

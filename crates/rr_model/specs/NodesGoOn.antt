@@ -14,7 +14,7 @@ use Rattle.rr_model.specs.World.{with_at}
 use Rattle.rr_model.specs.NodeState.{NodeState, is_decided_request}
 use Rattle.rr_model.specs.NodeParts.{is_estimate_beside}
 use Rattle.rr_types.specs.declared.input.Input.{Input}
-use Rattle.rr_types.specs.declared.input.Input.TheVariants.{Submit, Suspect, Tick, Advance, Hear}
+use Rattle.rr_types.specs.declared.input.Input.TheVariants.{Submit, Advance, Hear}
 use Rattle.rr_model.specs.NodeStep.{input_refusal, next_acknowledged}
 use Rattle.rr_model.specs.NodeLaws.{NodeEvent, Told, Grouped, PutBack, Marked, Left, Answered, after_event}
 use Rattle.rr_model.specs.NodeReached.{opened_over}
@@ -26,12 +26,11 @@ pub record Cluster : Type 0 where
   pub sent : List Message
 
 -- what a node may be told: the one command, a message that was sent, or that its round takes too long
-abbrev pub MayBeTold : List Message → Command → Input → Type 0
+abbrev pub MayBeTold : List Message → Command → Input Message → Type 0
 MayBeTold sent c (Submit d) = d ≡ c
-MayBeTold sent c (Suspect set) = ⊥
-MayBeTold sent c Tick = ⊥
-MayBeTold sent c Advance = Unit {0}
 MayBeTold sent c (Hear m) = Contains sent m
+MayBeTold sent c Advance = Unit {0}
+MayBeTold sent c _ = ⊥
 
 -- what may happen at a node in this state. It is told nothing that it refuses
 abbrev pub MayHappenAt : List Message → Command → NodeState → NodeEvent → Type 0

@@ -115,7 +115,7 @@ pub fn laws_of_nodes()
     ensures nothing_is_due_at_the_end { (s : NodeState) → due (settle s) ≡ None }
     ensures what_is_due_is_done_first { (s : NodeState) (d : Due) → due s ≡ Some d → settle s ≡ settle (carry_out d s) }
     ensures where_nothing_is_due_nothing_happens { (s : NodeState) → due s ≡ None → settle s ≡ s }
-    ensures inputs_mark_nothing { (input : Input) (s : NodeState) → StaysMarked s (node_step input s) }
+    ensures inputs_mark_nothing { (input : Input Message) (s : NodeState) → StaysMarked s (node_step input s) }
     ensures messages_are_backed { (n p : ℕ) (facts : List Fact) → IsTrue (all_fit n p [] facts) → IsTruthfulNode n p facts }
     ensures events_are_steps_of_the_world { (n p : ℕ) (facts : List Fact) → IsTrue (all_fit n p [] facts) → IsWorldlyNode n p facts }
 {}

@@ -18,8 +18,8 @@ use Rattle.rr_journal.specs.Openings.{Phase, After, Goes, Opens, Stops, due_call
 use Rattle.rr_journal.specs.OtherAreas.{other_area, closes_in}
 use Rattle.rr_journal.specs.Switches.{switch_calls}
 use Rattle.rr_node.specs.declared.doing.Doing as code
-use Rattle.rr_node.specs.declared.event.NodeEvent.{NodeEvent}
-use Rattle.rr_node.specs.declared.event.NodeEvent.TheVariants as at
+use Rattle.rr_types.specs.declared.event.NodeEvent.{NodeEvent}
+use Rattle.rr_types.specs.declared.event.NodeEvent.TheVariants as at
 use Rattle.rr_node.specs.declared.event.Outcome.{Outcome}
 use Rattle.rr_node.specs.declared.event.Outcome.TheVariants.{Quiet, Left, Replied}
 use Rattle.rr_node.specs.Seats.{Flush, Resting, Writing, Flushed, Switching, Journaled, Doing, Stopped, Faulted, Opening, Serving, Seat, Answer, Gives, Fails, AtMostOneCall, called, refuse, goes_on, read_by, opens_on, open_on, flush_on, told, payload_of, take_up, may_snap, snapshot_of, snap_up, mark_up, send_off, reply_off, serve, wait, await_opening, by_doing, seat_step, fall, grows, starve_call, starve_flush, starve_end, starve_opening, starve_awaiting, starve_beginning, starve_marking, starve_serving, starve_doing, fail_doing, after_failing_starved}
@@ -35,7 +35,7 @@ MakesOne seat given = AtMostOneCall seat given.1
 
 -- ---- events that make none
 
-told_none : (input : Input) (s : NodeState) (journal : Journaled) (flush : Flush) (seat : Seat) → MakesNone seat (told input s journal flush seat)
+told_none : (input : Input Message) (s : NodeState) (journal : Journaled) (flush : Flush) (seat : Seat) → MakesNone seat (told input s journal flush seat)
 told_none input s journal flush seat = by (refusal_of input s)
   where
     by : (o : Option Refusal) → MakesNone seat (option_map_or (λ e. refuse e seat) o (goes_on Quiet (Serving (node_step input s) journal flush) seat))
@@ -87,7 +87,7 @@ reply_none s journal flush seat = by (next_acknowledged s)
     by None = refl
     by (Some q) = replied q (reply_of (decided_prefix s) q)
 
-serve_none : (event : NodeEvent) (s : NodeState) (journal : Journaled) (flush : Flush) (seat : Seat) → event ≢ at.Device → MakesNone seat (serve s journal flush seat event)
+serve_none : (event : NodeEvent Message) (s : NodeState) (journal : Journaled) (flush : Flush) (seat : Seat) → event ≢ at.Device → MakesNone seat (serve s journal flush seat event)
 serve_none (at.Told input) s journal flush seat other = told_none input s journal flush seat
 serve_none at.Take s journal flush seat other = take_none s journal flush seat
 serve_none at.Device s journal flush seat other = absurd (other refl)
@@ -97,7 +97,7 @@ serve_none at.Acknowledge s journal flush seat other = reply_none s journal flus
 serve_none at.Snap s journal flush seat other = snap_none s journal flush seat
 serve_none at.Restart s journal flush seat other = refl
 
-wait_none : (event : NodeEvent) (seat : Seat) (e : Refusal) → MakesNone seat (wait event seat e)
+wait_none : (event : NodeEvent Message) (seat : Seat) (e : Refusal) → MakesNone seat (wait event seat e)
 wait_none (at.Told input) seat e = refl
 wait_none at.Take seat e = refl
 wait_none at.Device seat e = refl
@@ -107,7 +107,7 @@ wait_none at.Acknowledge seat e = refl
 wait_none at.Snap seat e = refl
 wait_none at.Restart seat e = refl
 
-await_none : (event : NodeEvent) (phase : Phase) (seat : Seat) → event ≢ at.Device → MakesNone seat (await_opening phase seat event)
+await_none : (event : NodeEvent Message) (phase : Phase) (seat : Seat) → event ≢ at.Device → MakesNone seat (await_opening phase seat event)
 await_none (at.Told input) phase seat other = refl
 await_none at.Take phase seat other = refl
 await_none at.Device phase seat other = absurd (other refl)
@@ -117,7 +117,7 @@ await_none at.Acknowledge phase seat other = refl
 await_none at.Snap phase seat other = refl
 await_none at.Restart phase seat other = refl
 
-step_none : (event : NodeEvent) (seat : Seat) (doing : Doing) → event ≢ at.Device → MakesNone seat (by_doing event seat doing)
+step_none : (event : NodeEvent Message) (seat : Seat) (doing : Doing) → event ≢ at.Device → MakesNone seat (by_doing event seat doing)
 step_none event seat Stopped other = wait_none event seat because.Down
 step_none event seat Faulted other = wait_none event seat because.Failed
 step_none event seat (Opening phase) other = await_none event phase seat other
@@ -125,7 +125,7 @@ step_none event seat (Serving s journal flush) other = serve_none event s journa
 
 -- where memory is wanting
 
-awaiting_none : (event : NodeEvent) (phase : Phase) (seat : Seat) → event ≢ at.Device → MakesNone seat (starve_awaiting phase event seat)
+awaiting_none : (event : NodeEvent Message) (phase : Phase) (seat : Seat) → event ≢ at.Device → MakesNone seat (starve_awaiting phase event seat)
 awaiting_none (at.Told input) phase seat other = step_none (at.Told input) seat seat.doing other
 awaiting_none at.Take phase seat other = step_none at.Take seat seat.doing other
 awaiting_none at.Device phase seat other = absurd (other refl)
@@ -135,7 +135,7 @@ awaiting_none at.Acknowledge phase seat other = step_none at.Acknowledge seat se
 awaiting_none at.Snap phase seat other = step_none at.Snap seat seat.doing other
 awaiting_none at.Restart phase seat other = step_none at.Restart seat seat.doing other
 
-beginning_none : (event : NodeEvent) (flush : Flush) (seat : Seat) → event ≢ at.Device → MakesNone seat (starve_beginning flush event seat)
+beginning_none : (event : NodeEvent Message) (flush : Flush) (seat : Seat) → event ≢ at.Device → MakesNone seat (starve_beginning flush event seat)
 beginning_none event Resting seat other = refl
 beginning_none event (Writing calls) seat other = step_none event seat seat.doing other
 beginning_none event Flushed seat other = step_none event seat seat.doing other
@@ -147,7 +147,7 @@ marking_none (Writing calls) seat = step_none at.Mark seat seat.doing (λ e. cc)
 marking_none Flushed seat = refl
 marking_none (Switching calls) seat = step_none at.Mark seat seat.doing (λ e. cc)
 
-serving_none : (event : NodeEvent) (s : NodeState) (flush : Flush) (seat : Seat) → event ≢ at.Device → MakesNone seat (starve_serving s flush event seat)
+serving_none : (event : NodeEvent Message) (s : NodeState) (flush : Flush) (seat : Seat) → event ≢ at.Device → MakesNone seat (starve_serving s flush event seat)
 serving_none (at.Told input) s flush seat other = refl
 serving_none at.Take s flush seat other = beginning_none at.Take flush seat other
 serving_none at.Device s flush seat other = absurd (other refl)
@@ -157,7 +157,7 @@ serving_none at.Acknowledge s flush seat other = step_none at.Acknowledge seat s
 serving_none at.Snap s flush seat other = beginning_none at.Snap flush seat other
 serving_none at.Restart s flush seat other = step_none at.Restart seat seat.doing other
 
-starve_none : (event : NodeEvent) (seat : Seat) (doing : Doing) → event ≢ at.Device → MakesNone seat (starve_doing doing event seat)
+starve_none : (event : NodeEvent Message) (seat : Seat) (doing : Doing) → event ≢ at.Device → MakesNone seat (starve_doing doing event seat)
 starve_none event seat Stopped other = step_none event seat seat.doing other
 starve_none event seat Faulted other = step_none event seat seat.doing other
 starve_none event seat (Opening phase) other = awaiting_none event phase seat other
@@ -233,7 +233,7 @@ fail_one leaves (Serving s journal (Switching (call ∷ calls))) seat = inr refl
 
 -- ---- what was given
 
-is_device : (event : NodeEvent) → (event ≡ at.Device) ⊎ (event ≢ at.Device)
+is_device : (event : NodeEvent Message) → (event ≡ at.Device) ⊎ (event ≢ at.Device)
 is_device (at.Told input) = inr (λ e. cc)
 is_device at.Take = inr (λ e. cc)
 is_device at.Device = inl refl
@@ -244,12 +244,12 @@ is_device at.Snap = inr (λ e. cc)
 is_device at.Restart = inr (λ e. cc)
 
 -- an event that isn't a device event makes no device call
-pub gives_none : (event : NodeEvent) (old new : Seat) (answer : Result Outcome Refusal) → Gives event old answer new → event ≢ at.Device → new.calls ≡ old.calls
+pub gives_none : (event : NodeEvent Message) (old new : Seat) (answer : Result Outcome Refusal) → Gives event old answer new → event ≢ at.Device → new.calls ≡ old.calls
 gives_none event old new answer (inl is) other = subst (λ (x : Answer). MakesNone old x) (sym is) (step_none event old old.doing other)
 gives_none event old new answer (inr is) other = subst (λ (x : Answer). MakesNone old x) (sym is) (starve_none event old old.doing other)
 
 -- each makes at most one
-pub gives_one : (event : NodeEvent) (old new : Seat) (answer : Result Outcome Refusal) → Gives event old answer new → AtMostOneCall old new
+pub gives_one : (event : NodeEvent Message) (old new : Seat) (answer : Result Outcome Refusal) → Gives event old answer new → AtMostOneCall old new
 gives_one event old new answer gives = by (is_device event)
   where
     device : Gives at.Device old answer new → AtMostOneCall old new
@@ -257,7 +257,7 @@ gives_one event old new answer gives = by (is_device event)
     device (inr is) = subst (λ (x : Answer). MakesOne old x) (sym is) (starve_one old.doing old)
 
     by : (event ≡ at.Device) ⊎ (event ≢ at.Device) → AtMostOneCall old new
-    by (inl is) = device (subst (λ (e : NodeEvent). Gives e old answer new) is gives)
+    by (inl is) = device (subst (λ (e : NodeEvent Message). Gives e old answer new) is gives)
     by (inr other) = inl (gives_none event old new answer gives other)
 
 -- so does a failing device call
@@ -268,7 +268,7 @@ fails_one fill old new answer (inr is) = subst (λ (x : Answer). MakesOne old x)
 -- ---- of the code's node
 
 -- what was given to a node that was steady
-pub gave : (n p : ℕ) (event : NodeEvent) (inside taken left last : code.Doing) (now : Seat) (answer : Result Outcome Refusal) → seat_of n p inside ≡ now → IsSteady n p inside → taken ≡ inside
+pub gave : (n p : ℕ) (event : NodeEvent Message) (inside taken left last : code.Doing) (now : Seat) (answer : Result Outcome Refusal) → seat_of n p inside ≡ now → IsSteady n p inside → taken ≡ inside
     → Carries n p event taken answer left → last ≡ left → Gives event now answer (seat_of n p last)
 gave n p event inside taken left last now answer is steady same carries after =
     let here = (carries (subst (λ (d : code.Doing). IsSteady n p d) (sym same) steady)).0 in
@@ -283,14 +283,14 @@ gave_failing n p fill inside taken left last now answer is steady same carries a
     (subst (λ (d : code.Doing). Fails fill (seat_of n p inside) answer (seat_of n p d)) (sym after) (subst (λ (d : code.Doing). Fails fill (seat_of n p d) answer (seat_of n p left)) same here))
 
 -- equal parts carry alike
-pub carried : (n p : ℕ) (event made : NodeEvent) (old was new now : code.Doing) (answer : Result Outcome Refusal) → event ≡ made → old ≡ was → new ≡ now → Carries n p made was answer now → Carries n p event old answer new
+pub carried : (n p : ℕ) (event made : NodeEvent Message) (old was new now : code.Doing) (answer : Result Outcome Refusal) → event ≡ made → old ≡ was → new ≡ now → Carries n p made was answer now → Carries n p event old answer new
 carried n p event made old was new now answer same before after h =
-    subst (λ (x : NodeEvent). Carries n p x old answer new) (sym same)
+    subst (λ (x : NodeEvent Message). Carries n p x old answer new) (sym same)
     (subst (λ (d : code.Doing). Carries n p made d answer new) (sym before) (subst (λ (d : code.Doing). Carries n p made was answer d) (sym after) h))
 
 -- ---- of a quiet event
 
-module _ (n p : ℕ) (event : NodeEvent) (inside last : code.Doing) (now : Seat) (is : seat_of n p inside ≡ now) (steady : IsSteady n p inside) where
+module _ (n p : ℕ) (event : NodeEvent Message) (inside last : code.Doing) (now : Seat) (is : seat_of n p inside ≡ now) (steady : IsSteady n p inside) where
   -- what it gave to a node that was steady
   pub gave_quietly : (r : Option (Result (Unit {0}) Refusal)) → CarriesQuietly event inside r last → IfSome r (λ answer. Gives event now (quiet answer) (seat_of n p last))
   gave_quietly None carries = tt

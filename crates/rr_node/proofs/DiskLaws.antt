@@ -12,7 +12,7 @@ use Rattle.rr_disk.specs.Memory.{MemoryState, MemoryRead, MemoryWrite, MemorySyn
 use Rattle.rr_disk.proofs.OverMemory.{failing_in_memory}
 use Rattle.rr_journal.specs.Calls.{Call, Read, Write, Sync, after_call, after_starved, after_failing}
 use Rattle.rr_journal.specs.Openings.{Refused}
-use Rattle.rr_node.specs.declared.event.NodeEvent.TheVariants as at
+use Rattle.rr_types.specs.declared.event.NodeEvent.TheVariants as at
 use Rattle.rr_node.specs.Seats.{Seat, seat_step, fall, grows, starve_call, after_failing_starved}
 use Rattle.rr_node.specs.Views.{NodeDisk}
 use Rattle.rr_node.proofs.FrontLaws.{Reaches}

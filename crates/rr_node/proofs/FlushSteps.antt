@@ -25,7 +25,7 @@ use Rattle.rr_journal.specs.Calls.{Call, after_call, after_starved, append_calls
 use Rattle.rr_image.specs.Held.{Holds}
 use Rattle.rr_journal.specs.Journals.{IsOver, once_flushed}
 use Rattle.rr_journal.proofs.FlushLaws.{length-frame}
-use Rattle.rr_node.specs.declared.event.NodeEvent.TheVariants as at
+use Rattle.rr_types.specs.declared.event.NodeEvent.TheVariants as at
 use Rattle.rr_node.specs.declared.event.Outcome.TheVariants.{Quiet}
 use Rattle.rr_node.specs.Seats.{Flush, Resting, Writing, Flushed, Switching, Journaled, Faulted, Serving, Seat, Answer, goes_on, refuse, payload_of, take_up, mark_up, flush_on, journal_behind, seat_step, fall, grows, starve_flush}
 use Rattle.rr_node.specs.Worlds.{Moment, BodyDue, BodyOut, BodySafe, GateSet, calls_at, areas_at, flush_of, AreInOrder, journal_at, IsServing, InStep}

@@ -36,7 +36,7 @@ use Rattle.rr_core.specs.declared.steps.Progress.TheVariants as progress
 use Rattle.rr_core.specs.Recoveries.{end_of, as_step, IsStarted, StandsFor, Recovers}
 use Rattle.rr_node.specs.declared.doing.Doing as doing
 use Rattle.rr_node.specs.declared.doing.Doing.TheVariants as does
-use Rattle.rr_node.specs.declared.event.NodeEvent.TheVariants as at
+use Rattle.rr_types.specs.declared.event.NodeEvent.TheVariants as at
 use Rattle.rr_node.specs.declared.event.Outcome.{Outcome}
 use Rattle.rr_node.specs.declared.event.Outcome.TheVariants.{Quiet}
 use Rattle.rr_node.specs.Seats as seats

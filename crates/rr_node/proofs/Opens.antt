@@ -36,7 +36,7 @@ use Rattle.rr_journal.specs.Stages.{call_at, calls_from, stage_behind}
 use Rattle.rr_journal.proofs.OpeningLaws.{read_at_rest}
 use Rattle.rr_journal.proofs.PromisedLaws.{found_promised, promised_snapshot}
 use Rattle.rr_journal.proofs.RewriteLaws.{Behind, goes_rewriting}
-use Rattle.rr_node.specs.declared.event.NodeEvent.TheVariants as at
+use Rattle.rr_types.specs.declared.event.NodeEvent.TheVariants as at
 use Rattle.rr_node.specs.declared.event.Outcome.TheVariants.{Quiet}
 use Rattle.rr_node.specs.Seats.{Journaled, Doing, Stopped, Opening, called, serves, opens_on, open_on}
 use Rattle.rr_node.specs.Worlds.{AreInOrder, EachHoldsSome, IsDown, WritesAnew, OpensSome, IsOpening, journal_at, InStep}

@@ -13,6 +13,7 @@ use Rattle.rr_types.specs.declared.promise.Entry.{Entry}
 use Rattle.rr_types.specs.Registry.{Bindings, registry_of}
 use Rattle.rr_model.specs.NodeState.{NodeState, decided_prefix}
 use Rattle.rr_types.specs.declared.input.Input.{Input}
+use Rattle.rr_types.specs.declared.message.Message.{Message}
 use Rattle.rr_model.specs.NodeStep.{node_step, input_refusal, refusal_of, group_taken, group_put_back, marked_running, running_group, restored, started}
 use Rattle.rr_model.specs.NodeStays.{StaysMarked}
 use Rattle.rr_model.proofs.NodeSteady.{input_stays, started_stays}
@@ -38,7 +39,7 @@ use Rattle.rr_node.specs.declared.doing.Doing.TheVariants as does
 use Rattle.rr_node.specs.declared.serving.Serving.{Serving}
 use Rattle.rr_node.specs.declared.serving.Flush.{Flush}
 use Rattle.rr_node.specs.declared.serving.Flush.TheVariants as flush
-use Rattle.rr_node.specs.declared.event.NodeEvent.TheVariants as at
+use Rattle.rr_types.specs.declared.event.NodeEvent.TheVariants as at
 use Rattle.rr_node.specs.declared.event.Outcome.TheVariants.{Quiet, Opened}
 use Rattle.rr_node.specs.Seats as seats
 use Rattle.rr_node.specs.Seats.{Seat, Answer, Journaled, Fails, goes_on, refuse, told, starve_input, take_up, payload_of, journal_behind}
@@ -130,7 +131,7 @@ serving_stays n p s t j f same h = record {
 }
 
 -- what an input to the core answered, and the core after it
-pub record IsTold (input : Input) (s t : NodeState) (r : Result (Unit {0}) Refusal) : Type 0 where
+pub record IsTold (input : Input Message) (s t : NodeState) (r : Result (Unit {0}) Refusal) : Type 0 where
   pub ok : OnOk r (t ≡ node_step input s)
   pub allowed : OnOk r (refusal_of input s ≡ None)
   pub order : (e : Refusal) → input_refusal input s ≡ Some e → r ≡ Err e
@@ -138,10 +139,10 @@ pub record IsTold (input : Input) (s t : NodeState) (r : Result (Unit {0}) Refus
   pub err : OnErr r (t ≡ s)
 
 -- the same, of a seat
-abbrev Tells : Input → NodeState → Journal NodeDisk → Flush → Seat → Answer → Type 0
+abbrev Tells : Input Message → NodeState → Journal NodeDisk → Flush → Seat → Answer → Type 0
 Tells input s j f seat given = (given ≡ told input s (journaled_of j) (flush_of f) seat) ⊎ (given ≡ starve_input input s seat)
 
-pub told_on : (input : Input) (s t : NodeState) (j : Journal NodeDisk) (f : Flush) (r : Result (Unit {0}) Refusal) (n p : ℕ) → IsTold input s t r → IsServing n p (record { core = s; slots = j; flush = f })
+pub told_on : (input : Input Message) (s t : NodeState) (j : Journal NodeDisk) (f : Flush) (r : Result (Unit {0}) Refusal) (n p : ℕ) → IsTold input s t r → IsServing n p (record { core = s; slots = j; flush = f })
     → Tells input s j f (seat_of n p (does.Serving (record { core = s; slots = j; flush = f }))) (quiet r, seat_of n p (does.Serving (record { core = t; slots = j; flush = f })))
     × IsServing n p (record { core = t; slots = j; flush = f })
 told_on input s t j f (Ok x) n p h steady =

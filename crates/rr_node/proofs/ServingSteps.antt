@@ -14,7 +14,7 @@ use Rattle.rr_model.specs.World.{World, Step, Stage, Send, after_step, IsRunFrom
 use Rattle.rr_model.specs.Laws.{after_steps}
 use Rattle.rr_model.specs.NodeState.{NodeState, decided_prefix}
 use Rattle.rr_types.specs.declared.input.Input.{Input}
-use Rattle.rr_types.specs.declared.input.Input.TheVariants.{Submit, Hear, Suspect, Tick, Advance}
+use Rattle.rr_types.specs.declared.input.Input.TheVariants.{Submit, Hear}
 use Rattle.rr_model.specs.NodeStep.{node_step, refusal_of, running_group, next_leaving, message_left, next_acknowledged, acknowledged}
 use Rattle.rr_model.specs.NodeLaws.{NodeEvent, Told, Left, Answered, after_event, heard_after, facts_of_input, facts_of_event}
 use Rattle.rr_model.specs.NodeReached.{NamesRounds, IsProperEvent, Happened}
@@ -29,8 +29,8 @@ use Rattle.rr_model.proofs.NodeSteady.{input_stays}
 use Rattle.rr_disk.specs.Areas.{Areas}
 use Rattle.rr_disk.specs.Crash.{Images}
 use Rattle.rr_journal.specs.Journals.{IsOver}
-use Rattle.rr_node.specs.declared.event.NodeEvent as node
-use Rattle.rr_node.specs.declared.event.NodeEvent.TheVariants as at
+use Rattle.rr_types.specs.declared.event.NodeEvent as node
+use Rattle.rr_types.specs.declared.event.NodeEvent.TheVariants as at
 use Rattle.rr_node.specs.declared.event.Outcome.TheVariants as outcome
 use Rattle.rr_node.specs.Seats.{Flush, Resting, Writing, Flushed, Switching, Journaled, Serving, Seat, goes_on, refuse, told, send_off, reply_off}
 use Rattle.rr_node.specs.Worlds.{is_settled, journal_at, FlushesSo, IsServing, InStep}
@@ -39,12 +39,10 @@ use Rattle.rr_node.proofs.Going.{no_member, goes, stays}
 use Rattle.rr_node.proofs.Falling.{seated}
 
 -- any event may be no step
-pub nothing : (p : ℕ) (event : node.NodeEvent) → MayBe p event []
+pub nothing : (p : ℕ) (event : node.NodeEvent Message) → MayBe p event []
 nothing p (at.Told (Submit c)) = inl refl
 nothing p (at.Told (Hear m)) = inl refl
-nothing p (at.Told (Suspect set)) = ([], refl)
-nothing p (at.Told Tick) = ([], refl)
-nothing p (at.Told Advance) = ([], refl)
+nothing p (at.Told input) = ([], refl)
 nothing p at.Take = refl
 nothing p at.Device = inl (inl refl)
 nothing p at.Mark = refl
@@ -54,11 +52,11 @@ nothing p at.Snap = refl
 nothing p at.Restart = refl
 
 -- a refused event is none
-pub refuses : (n p : ℕ) (w : World) (event : node.NodeEvent) (seat : Seat) (e : Refusal) → InStep n p seat w → GoesOn n p (MayBe p event) w (refuse e seat).0 (refuse e seat).1
+pub refuses : (n p : ℕ) (w : World) (event : node.NodeEvent Message) (seat : Seat) (e : Refusal) → InStep n p seat w → GoesOn n p (MayBe p event) w (refuse e seat).0 (refuse e seat).1
 refuses n p w event seat e h = stays n p (MayBe p event) w (Err e) seat (nothing p event) h (record { unsent = refl; untold = refl })
 
 -- nor is an event of which nothing comes
-pub does_nothing : (n p : ℕ) (w : World) (event : node.NodeEvent) (seat : Seat) → InStep n p seat w → GoesOn n p (MayBe p event) w (Ok outcome.Quiet) seat
+pub does_nothing : (n p : ℕ) (w : World) (event : node.NodeEvent Message) (seat : Seat) → InStep n p seat w → GoesOn n p (MayBe p event) w (Ok outcome.Quiet) seat
 does_nothing n p w event seat h = stays n p (MayBe p event) w (Ok outcome.Quiet) seat (nothing p event) h (record { unsent = refl; untold = refl })
 
 -- the same group runs, behind as many marked facts
@@ -76,7 +74,7 @@ flushes_on n p s t journal kept start both (Writing calls) on h = record { group
 flushes_on n p s t journal kept start both Flushed on h = (h.0, on.running ∙ h.1, h.2)
 
 -- an event of the core that leaves its group and what is kept
-module _ (n p : ℕ) (w : World) (both : Areas) (s : NodeState) (journal : Journaled) (flush : Flush) (serves : IsServing n p w both s journal flush) (e : NodeEvent) (proper : IsProperEvent n e) (leaves : LeavesTheGroup e) (comes : worldly.MayCome w p s e) where
+module _ (n p : ℕ) (w : World) (both : Areas) (s : NodeState) (journal : Journaled) (flush : Flush) (serves : IsServing n p w both s journal flush) (e : NodeEvent Message) (proper : IsProperEvent n e) (leaves : LeavesTheGroup e) (comes : worldly.MayCome w p s e) where
   pub event_runs : IsRunFrom n w (steps_of_event p s e)
   event_runs = (reached_in_world n p serves.facts serves.heard s serves.reached (is_settled flush) e proper leaves w serves.in_world comes).0
 
@@ -99,37 +97,33 @@ stages_keep : (p : ℕ) (w : World) (facts : List Fact) → (after_steps w (map 
 stages_keep p w [] = refl
 stages_keep p w (f ∷ facts) = stages_keep p (after_step w (Stage p f)) facts
 
-input_keeps : (p : ℕ) (w : World) (input : Input) → (after_steps w (step_of_input p input)).kept ≡ w.kept
+input_keeps : (p : ℕ) (w : World) (input : Input Message) → (after_steps w (step_of_input p input)).kept ≡ w.kept
 input_keeps p w (Submit c) = refl
-input_keeps p w (Suspect set) = refl
-input_keeps p w Tick = refl
-input_keeps p w Advance = refl
 input_keeps p w (Hear m) = by (m.to == p)
   where
     by : (b : Bool) → (after_steps w (if b then world.Hear p m ∷ [] else [])).kept ≡ w.kept
     by true = refl
     by false = refl
+input_keeps p w input = refl
 
-told_keeps : (p : ℕ) (w : World) (s : NodeState) (input : Input) → (after_steps w (steps_of_event p s (Told input))).kept p ≡ w.kept p
+told_keeps : (p : ℕ) (w : World) (s : NodeState) (input : Input Message) → (after_steps w (steps_of_event p s (Told input))).kept p ≡ w.kept p
 told_keeps p w s input =
     ap (λ (v : World). v.kept p) (after_steps-append w (step_of_input p input) (map (Stage p) (facts_of_input s input)))
     ∙ ap (λ (k : ℕ → List Fact). k p) (stages_keep p (after_steps w (step_of_input p input)) (facts_of_input s input) ∙ input_keeps p w input)
 
 module _ (n p k : ℕ) (w : World) (both : Areas) (s : NodeState) (journal : Journaled) (flush : Flush) (h : InStep n p (seated n p k both (Serving s journal flush)) w) where
   -- an input that may come is such steps
-  told_may_be : (input : Input) → MayCome n p w (at.Told input) → MayBe p (at.Told input) (steps_of_event p s (Told input)) × IsProperEvent n (Told input) × worldly.MayCome w p s (Told input)
+  told_may_be : (input : Input Message) → MayCome n p w (at.Told input) → MayBe p (at.Told input) (steps_of_event p s (Told input)) × IsProperEvent n (Told input) × worldly.MayCome w p s (Told input)
   told_may_be (Submit c) comes = (inr (facts_of_input s (Submit c), refl), tt, tt)
   told_may_be (Hear m) comes = (
     inr (facts_of_input s (Hear m), ap (λ (b : Bool). (if b then world.Hear p m ∷ [] else []) ++ map (Stage p) (facts_of_input s (Hear m))) (eq-eqb m.to p comes.1)),
     (comes.2, comes.3),
     λ to. comes.0,
   )
-  told_may_be (Suspect set) comes = ((facts_of_input s (Suspect set), refl), tt, tt)
-  told_may_be Tick comes = ((facts_of_input s Tick, refl), tt, tt)
-  told_may_be Advance comes = ((facts_of_input s Advance, refl), tt, tt)
+  told_may_be input comes = ((facts_of_input s input, refl), tt, tt)
 
   -- one that isn't refused is a run of them
-  pub tells : (input : Input) → MayCome n p w (at.Told input) → (let x = told input s journal flush (seated n p k both (Serving s journal flush)) in GoesOn n p (MayBe p (at.Told input)) w x.0 x.1)
+  pub tells : (input : Input Message) → MayCome n p w (at.Told input) → (let x = told input s journal flush (seated n p k both (Serving s journal flush)) in GoesOn n p (MayBe p (at.Told input)) w x.0 x.1)
   tells input comes = by (refusal_of input s)
     where
       by : (o : Option Refusal) → (let x = option_map_or (λ e. refuse e (seated n p k both (Serving s journal flush))) o (goes_on outcome.Quiet (Serving (node_step input s) journal flush) (seated n p k both (Serving s journal flush))) in GoesOn n p (MayBe p (at.Told input)) w x.0 x.1)

@@ -11,8 +11,9 @@ use Rattle.rr_journal.specs.Calls.{Call, Read, Write, Sync, after_call, after_st
 use Rattle.rr_journal.specs.Openings as opening
 use Rattle.rr_journal.specs.Openings.{After, Goes, Opens, Stops, due_call, after_opening_call}
 use Rattle.rr_journal.specs.OpeningTable.{contents}
-use Rattle.rr_node.specs.declared.event.NodeEvent.{NodeEvent}
-use Rattle.rr_node.specs.declared.event.NodeEvent.TheVariants as at
+use Rattle.rr_types.specs.declared.event.NodeEvent.{NodeEvent}
+use Rattle.rr_types.specs.declared.message.Message.{Message}
+use Rattle.rr_types.specs.declared.event.NodeEvent.TheVariants as at
 use Rattle.rr_node.specs.declared.event.Outcome.TheVariants.{Quiet}
 use Rattle.rr_node.specs.Seats.{Flush, Resting, Writing, Flushed, Switching, Journaled, Doing, Stopped, Faulted, Opening, Serving, Seat, Answer, Gives, called, read_by, opens_on, open_on, wait, await_opening, serve, by_doing, seat_step, fall, grows, starve_end, starve_opening, starve_awaiting, starve_beginning, starve_marking, starve_serving, starve}
 use Rattle.rr_node.specs.Worlds.{AreInOrder, EachHoldsSome, HoldsSome, IsDown, InStep}
@@ -30,7 +31,7 @@ use Rattle.rr_node.proofs.FlushSteps.{takes_in_step, marks_in_step, device_in_st
 
 module _ (n p k : ℕ) (few : n ≤ 7) (w : World) (areas : Areas) where
   -- an idle node is only started
-  idle_in_step : (doing : Doing) (e : Refusal) → IsDown p w → InStep n p (seated n p k areas doing) w → (event : NodeEvent) → (let x = wait event (seated n p k areas doing) e in GoesOn n p (MayBe p event) w x.0 x.1)
+  idle_in_step : (doing : Doing) (e : Refusal) → IsDown p w → InStep n p (seated n p k areas doing) w → (event : NodeEvent Message) → (let x = wait event (seated n p k areas doing) e in GoesOn n p (MayBe p event) w x.0 x.1)
   idle_in_step doing e down h at.Restart =
       stays n p (MayBe p at.Restart) w (Ok Quiet) (seated n p k areas (Opening opening.Settling)) refl
       (record { exists = h.exists; nodes = refl; node = refl; in_order = h.in_order; doing = (down, seat_holds n p (seated n p k areas doing) w h) }) (record { unsent = refl; untold = refl })
@@ -43,7 +44,7 @@ module _ (n p k : ℕ) (few : n ≤ 7) (w : World) (areas : Areas) where
   idle_in_step doing e down h at.Snap = refuses n p w at.Snap (seated n p k areas doing) e h
 
   -- one that opens makes its device calls
-  opening_in_step : (phase : opening.Phase) → InStep n p (seated n p k areas (Opening phase)) w → (event : NodeEvent) → (let x = await_opening phase (seated n p k areas (Opening phase)) event in IsSpelt x.1.doing → GoesOn n p (MayBe p event) w x.0 x.1)
+  opening_in_step : (phase : opening.Phase) → InStep n p (seated n p k areas (Opening phase)) w → (event : NodeEvent Message) → (let x = await_opening phase (seated n p k areas (Opening phase)) event in IsSpelt x.1.doing → GoesOn n p (MayBe p event) w x.0 x.1)
   opening_in_step phase h at.Device = opens_in_step n p k few w areas phase h
   opening_in_step phase h at.Restart = λ spelt. refuses n p w at.Restart (seated n p k areas (Opening phase)) because.Busy h
   opening_in_step phase h (at.Told input) = λ spelt. refuses n p w (at.Told input) (seated n p k areas (Opening phase)) because.Down h
@@ -54,7 +55,7 @@ module _ (n p k : ℕ) (few : n ≤ 7) (w : World) (areas : Areas) where
   opening_in_step phase h at.Snap = λ spelt. refuses n p w at.Snap (seated n p k areas (Opening phase)) because.Down h
 
   -- one that is up does as it is told
-  serving_in_step : (s : NodeState) (journal : Journaled) (flush : Flush) → InStep n p (seated n p k areas (Serving s journal flush)) w → (event : NodeEvent) → MayCome n p w event
+  serving_in_step : (s : NodeState) (journal : Journaled) (flush : Flush) → InStep n p (seated n p k areas (Serving s journal flush)) w → (event : NodeEvent Message) → MayCome n p w event
       → (let x = serve s journal flush (seated n p k areas (Serving s journal flush)) event in IsSpelt x.1.doing → GoesOn n p (MayBe p event) w x.0 x.1)
   serving_in_step s journal flush h (at.Told input) comes = λ spelt. tells n p k w areas s journal flush h input comes
   serving_in_step s journal flush h at.Take comes = takes_in_step n p k w areas s journal flush h
@@ -66,7 +67,7 @@ module _ (n p k : ℕ) (few : n ≤ 7) (w : World) (areas : Areas) where
   serving_in_step s journal flush h at.Restart comes = λ spelt. refuses n p w at.Restart (seated n p k areas (Serving s journal flush)) because.Busy h
 
   -- where memory is there
-  doing_in_step : (doing : Doing) → InStep n p (seated n p k areas doing) w → (event : NodeEvent) → MayCome n p w event
+  doing_in_step : (doing : Doing) → InStep n p (seated n p k areas doing) w → (event : NodeEvent Message) → MayCome n p w event
       → (let x = by_doing event (seated n p k areas doing) doing in IsSpelt x.1.doing → GoesOn n p (MayBe p event) w x.0 x.1)
   doing_in_step Stopped h event comes = λ spelt. idle_in_step Stopped because.Down h.doing.0 h event
   doing_in_step Faulted h event comes = λ spelt. idle_in_step Faulted because.Failed h.doing.0 h event
@@ -109,7 +110,7 @@ module _ (n p k : ℕ) (few : n ≤ 7) (w : World) (areas : Areas) where
           (synced_holds h.in_order (seat_holds n p (seated n p k areas (Opening phase)) w h)) (record { unsent = refl; untold = refl })
       by (Stops why) e = goes_so (Stops why) e
 
-  awaiting_starves : (phase : opening.Phase) → InStep n p (seated n p k areas (Opening phase)) w → (event : NodeEvent) → (let x = starve_awaiting phase event (seated n p k areas (Opening phase)) in IsSpelt x.1.doing → GoesOn n p (MayBe p event) w x.0 x.1)
+  awaiting_starves : (phase : opening.Phase) → InStep n p (seated n p k areas (Opening phase)) w → (event : NodeEvent Message) → (let x = starve_awaiting phase event (seated n p k areas (Opening phase)) in IsSpelt x.1.doing → GoesOn n p (MayBe p event) w x.0 x.1)
   awaiting_starves phase h at.Device = opening_starves phase h (due_call phase) refl
   awaiting_starves phase h (at.Told input) = opening_in_step phase h (at.Told input)
   awaiting_starves phase h at.Take = opening_in_step phase h at.Take
@@ -142,7 +143,7 @@ module _ (n p k : ℕ) (few : n ≤ 7) (w : World) (areas : Areas) where
   marking_starves s journal Flushed h = refuses n p w at.Mark (seated n p k areas (Serving s journal Flushed)) because.OutOfMemory h
   marking_starves s journal (Switching calls) h = marks_in_step n p k w areas s journal (Switching calls) h
 
-  serving_starves : (s : NodeState) (journal : Journaled) (flush : Flush) → InStep n p (seated n p k areas (Serving s journal flush)) w → (event : NodeEvent)
+  serving_starves : (s : NodeState) (journal : Journaled) (flush : Flush) → InStep n p (seated n p k areas (Serving s journal flush)) w → (event : NodeEvent Message)
       → (let x = starve_serving s flush event (seated n p k areas (Serving s journal flush)) in IsSpelt x.1.doing → GoesOn n p (MayBe p event) w x.0 x.1)
   serving_starves s journal flush h (at.Told input) = λ spelt. refuses n p w (at.Told input) (seated n p k areas (Serving s journal flush)) (unwrap_or (input_refusal input s) because.OutOfMemory) h
   serving_starves s journal flush h at.Take = taking_starves s journal flush h
@@ -154,7 +155,7 @@ module _ (n p k : ℕ) (few : n ≤ 7) (w : World) (areas : Areas) where
   serving_starves s journal flush h at.Restart = serving_in_step s journal flush h at.Restart tt
 
   -- where memory is wanting
-  starves : (doing : Doing) → InStep n p (seated n p k areas doing) w → (event : NodeEvent) → MayCome n p w event
+  starves : (doing : Doing) → InStep n p (seated n p k areas doing) w → (event : NodeEvent Message) → MayCome n p w event
       → (let x = starve event (seated n p k areas doing) in IsSpelt x.1.doing → GoesOn n p (MayBe p event) w x.0 x.1)
   starves Stopped h event comes = doing_in_step Stopped h event comes
   starves Faulted h event comes = doing_in_step Faulted h event comes

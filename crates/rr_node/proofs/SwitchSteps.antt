@@ -31,7 +31,7 @@ use Rattle.rr_journal.specs.Stages.{call_at, stage_behind, calls_from}
 use Rattle.rr_journal.specs.Switches.{switch_calls}
 use Rattle.rr_journal.specs.SwitchTable.{IsAtStage}
 use Rattle.rr_journal.proofs.SwitchLaws.{Behind, body_is_due, goes}
-use Rattle.rr_node.specs.declared.event.NodeEvent.TheVariants as at
+use Rattle.rr_types.specs.declared.event.NodeEvent.TheVariants as at
 use Rattle.rr_node.specs.declared.event.Outcome.TheVariants.{Quiet}
 use Rattle.rr_node.specs.Seats.{Flush, Resting, Writing, Flushed, Switching, Journaled, Serving, Seat, Answer, goes_on, refuse, snapshot_of, journal_switched, flush_on, may_snap, snap_up}
 use Rattle.rr_node.specs.Worlds.{AreInOrder, journal_at, snapshot_over, switch_at, InStep}

@@ -24,7 +24,7 @@ use Rattle.rr_journal.specs.Switches.{Switch, due_call, switch_calls, switched}
 use Rattle.rr_journal.specs.SwitchTable.{GoesOn}
 use Rattle.rr_node.specs.declared.doing.Doing.TheVariants as does
 use Rattle.rr_node.specs.declared.serving.Flush.TheVariants as flush
-use Rattle.rr_node.specs.declared.event.NodeEvent.TheVariants as at
+use Rattle.rr_types.specs.declared.event.NodeEvent.TheVariants as at
 use Rattle.rr_node.specs.declared.event.Outcome.TheVariants.{Quiet}
 use Rattle.rr_node.specs.Seats as seats
 use Rattle.rr_node.specs.Seats.{Seat, Answer, Fails, snapshot_of, may_snap, journal_switched}

@@ -4,7 +4,7 @@ use Rattle.std.specs.List.{Contains}
 use Rattle.rr_types.specs.declared.command.RequestNo.{RequestNo}
 use Rattle.rr_types.specs.declared.command.Reply.{Reply}
 use Rattle.rr_types.specs.declared.fact.Fact.{Fact}
-use Rattle.rr_types.specs.declared.input.Input.TheVariants.{Submit, Hear, Suspect, Tick, Advance}
+use Rattle.rr_types.specs.declared.input.Input.TheVariants.{Submit, Hear}
 use Rattle.rr_types.specs.declared.message.Message.{Message}
 use Rattle.rr_types.specs.declared.refusal.Refusal.{Refusal}
 use Rattle.rr_model.specs.World as world
@@ -17,8 +17,8 @@ use Rattle.rr_frame.specs.Snapshots.{IsSnapshot}
 use Rattle.rr_frame.specs.SnapshotFormat.{IsLawfulSnapshot}
 use Rattle.rr_journal.specs.Openings as opening
 use Rattle.rr_journal.specs.Rewrites.{content_anew}
-use Rattle.rr_node.specs.declared.event.NodeEvent.{NodeEvent}
-use Rattle.rr_node.specs.declared.event.NodeEvent.TheVariants as at
+use Rattle.rr_types.specs.declared.event.NodeEvent.{NodeEvent}
+use Rattle.rr_types.specs.declared.event.NodeEvent.TheVariants as at
 use Rattle.rr_node.specs.declared.event.Outcome.{Outcome}
 use Rattle.rr_node.specs.declared.event.Outcome.TheVariants.{Quiet, Left, Replied, Opened}
 use Rattle.rr_node.specs.Seats.{Resting, Writing, Flushed, Switching, Doing, Stopped, Faulted, Opening, Serving, Seat, Gives, Fails, crashed, new_seat, snapshot_of}
@@ -41,7 +41,7 @@ told_by p (Ok (Opened facts decided bindings)) = Reported p decided bindings ∷
 told_by p (Err e) = []
 
 -- a heard message is on the wire, for this node, from one of the n nodes, and names rounds above 0
-abbrev pub MayCome : ℕ → ℕ → World → NodeEvent → Type 0
+abbrev pub MayCome : ℕ → ℕ → World → NodeEvent Message → Type 0
 MayCome n p w (at.Told (Hear m)) = Contains w.wire m × (m.to ≡ p) × (m.from < n) × NamesRounds m.body
 MayCome n p w event = Unit {0}
 
@@ -62,12 +62,10 @@ abbrev pub IsDeviceCall : ℕ → List Step → Type 0
 IsDeviceCall p steps = MayFall p steps ⊎ ((count : ℕ) × (steps ≡ Settle p count ∷ [])) ⊎ ((count : ℕ) × (steps ≡ world.Restart p count ∷ []))
 
 -- the steps of the world that an event of node p may be
-abbrev pub MayBe : ℕ → NodeEvent → List Step → Type 0
+abbrev pub MayBe : ℕ → NodeEvent Message → List Step → Type 0
 MayBe p (at.Told (Submit c)) steps = AreStagedBehind p (world.Submit p c) steps
 MayBe p (at.Told (Hear m)) steps = AreStagedBehind p (world.Hear p m) steps
-MayBe p (at.Told (Suspect set)) steps = AreStaged p steps
-MayBe p (at.Told Tick) steps = AreStaged p steps
-MayBe p (at.Told Advance) steps = AreStaged p steps
+MayBe p (at.Told _) steps = AreStaged p steps
 MayBe p at.Take steps = steps ≡ []
 MayBe p at.Device steps = IsDeviceCall p steps
 MayBe p at.Mark steps = steps ≡ []
@@ -116,7 +114,7 @@ StartsInStep n p = p < n → InStep n p (new_seat n p) empty_world
 -- each event of a node in step is a run of steps that keeps it so
 abbrev pub StepsInStep : ℕ → ℕ → Type 0
 StepsInStep n p =
-    (event : NodeEvent) (seat next : Seat) (w : World) (answer : Result Outcome Refusal) → InStep n p seat w
+    (event : NodeEvent Message) (seat next : Seat) (w : World) (answer : Result Outcome Refusal) → InStep n p seat w
     → MayCome n p w event → Gives event seat answer next → IsSpelt next.doing
     → GoesOn n p (MayBe p event) w answer next
 

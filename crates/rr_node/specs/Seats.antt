@@ -6,6 +6,7 @@ use Rattle.rr_types.specs.declared.refusal.Refusal.TheVariants as because
 use Rattle.rr_types.specs.Registry.{registry_of, reply_of}
 use Rattle.rr_model.specs.NodeState.{NodeState, decided_prefix}
 use Rattle.rr_types.specs.declared.input.Input.{Input}
+use Rattle.rr_types.specs.declared.message.Message.{Message}
 use Rattle.rr_model.specs.NodeStep.{node_step, input_refusal, refusal_of, group_taken, marked_running, running_group, next_leaving, message_left, next_acknowledged, acknowledged, started}
 use Rattle.rr_disk.specs.declared.area.Area.{Area}
 use Rattle.rr_disk.specs.Areas.{Areas, extent_of, read_of, at_rest, synced}
@@ -15,8 +16,8 @@ use Rattle.rr_frame.specs.GroupFormat.{group_bytes}
 use Rattle.rr_frame.specs.Snapshots.{Snapped}
 use Rattle.rr_frame.specs.SnapshotFormat.{snapshot_bytes}
 use Rattle.rr_image.specs.Image.{Content}
-use Rattle.rr_node.specs.declared.event.NodeEvent.{NodeEvent}
-use Rattle.rr_node.specs.declared.event.NodeEvent.TheVariants as at
+use Rattle.rr_types.specs.declared.event.NodeEvent.{NodeEvent}
+use Rattle.rr_types.specs.declared.event.NodeEvent.TheVariants as at
 use Rattle.rr_node.specs.declared.event.Outcome.{Outcome}
 use Rattle.rr_node.specs.declared.event.Outcome.TheVariants.{Quiet, Left, Replied, Opened}
 use Rattle.rr_journal.specs.Calls.{Call, Read, Write, Sync, after_call, after_starved, after_failing, append_calls}
@@ -139,7 +140,7 @@ flush_on s journal seat (Switching (call ∷ next ∷ calls)) =
     goes_on Quiet (Serving s journal (Switching (next ∷ calls))) (called (after_call call seat.areas) seat)
 
 -- an input to a serving node
-abbrev pub told : Input → NodeState → Journaled → Flush → Seat → Answer
+abbrev pub told : Input Message → NodeState → Journaled → Flush → Seat → Answer
 told input s journal flush seat =
     option_map_or (λ e. refuse e seat) (refusal_of input s) (goes_on Quiet (Serving (node_step input s) journal flush) seat)
 
@@ -196,7 +197,7 @@ reply_off s journal flush seat =
     (next_acknowledged s) (Ok Quiet, seat)
 
 -- an event at a serving node
-abbrev pub serve : NodeState → Journaled → Flush → Seat → NodeEvent → Answer
+abbrev pub serve : NodeState → Journaled → Flush → Seat → NodeEvent Message → Answer
 serve s journal flush seat (at.Told input) = told input s journal flush seat
 serve s journal flush seat at.Take = take_up s journal flush seat
 serve s journal flush seat at.Device = flush_on s journal seat flush
@@ -207,7 +208,7 @@ serve s journal flush seat at.Snap = snap_up s journal flush seat
 serve s journal flush seat at.Restart = refuse because.Busy seat
 
 -- an event at a node that is down, opening or failed
-abbrev pub wait : NodeEvent → Seat → Refusal → Answer
+abbrev pub wait : NodeEvent Message → Seat → Refusal → Answer
 wait at.Restart seat e = goes_on Quiet (Opening Settling) seat
 wait (at.Told input) seat e = refuse e seat
 wait at.Take seat e = refuse e seat
@@ -218,7 +219,7 @@ wait at.Acknowledge seat e = refuse e seat
 wait at.Snap seat e = refuse e seat
 
 -- a node that opens makes its device calls and refuses the rest
-abbrev pub await_opening : Phase → Seat → NodeEvent → Answer
+abbrev pub await_opening : Phase → Seat → NodeEvent Message → Answer
 await_opening phase seat at.Device = open_on seat phase
 await_opening phase seat at.Restart = refuse because.Busy seat
 await_opening phase seat (at.Told input) = refuse because.Down seat
@@ -229,7 +230,7 @@ await_opening phase seat at.Acknowledge = refuse because.Down seat
 await_opening phase seat at.Snap = refuse because.Down seat
 
 -- an event at a node, by what the node does
-abbrev pub by_doing : NodeEvent → Seat → Doing → Answer
+abbrev pub by_doing : NodeEvent Message → Seat → Doing → Answer
 by_doing event seat Stopped = wait event seat because.Down
 by_doing event seat Faulted = wait event seat because.Failed
 by_doing event seat (Opening phase) = await_opening phase seat event
@@ -241,7 +242,7 @@ crashed cut_first cut_second fill seat =
     record seat { doing = Stopped; areas = restarted (crash_images cut_first cut_second fill seat.areas) }
 
 -- what an event answers, and the node after it, where memory is there
-abbrev pub seat_step : NodeEvent → Seat → Answer
+abbrev pub seat_step : NodeEvent Message → Seat → Answer
 seat_step event seat = by_doing event seat seat.doing
 
 -- a device call that fails and leaves the areas so: the node has failed
@@ -280,7 +281,7 @@ starve_opening phase (Write area at bytes) seat = starve_call (Write area at byt
 starve_opening phase Sync seat = starve_end (called (synced seat.areas) seat) (after_opening_call seat.nodes seat.node [] phase)
 
 -- an event at a node that opens, where memory is wanting: only device calls take it
-abbrev pub starve_awaiting : Phase → NodeEvent → Seat → Answer
+abbrev pub starve_awaiting : Phase → NodeEvent Message → Seat → Answer
 starve_awaiting phase at.Device seat = starve_opening phase (due_call phase) seat
 starve_awaiting phase (at.Told input) seat = seat_step (at.Told input) seat
 starve_awaiting phase at.Take seat = seat_step at.Take seat
@@ -291,7 +292,7 @@ starve_awaiting phase at.Snap seat = seat_step at.Snap seat
 starve_awaiting phase at.Restart seat = seat_step at.Restart seat
 
 -- where no job runs the beginning of one is refused
-abbrev pub starve_beginning : Flush → NodeEvent → Seat → Answer
+abbrev pub starve_beginning : Flush → NodeEvent Message → Seat → Answer
 starve_beginning Resting event seat = refuse because.OutOfMemory seat
 starve_beginning (Writing calls) event seat = seat_step event seat
 starve_beginning Flushed event seat = seat_step event seat
@@ -305,11 +306,11 @@ starve_marking Flushed seat = refuse because.OutOfMemory seat
 starve_marking (Switching calls) seat = seat_step at.Mark seat
 
 -- an input where memory is wanting: it is refused for that, unless it is refused for what it is
-abbrev pub starve_input : Input → NodeState → Seat → Answer
+abbrev pub starve_input : Input Message → NodeState → Seat → Answer
 starve_input input s seat = refuse (unwrap_or (input_refusal input s) because.OutOfMemory) seat
 
 -- an event at a serving node where memory is wanting: inputs are refused; sending, acknowledging and a restart take none
-abbrev pub starve_serving : NodeState → Flush → NodeEvent → Seat → Answer
+abbrev pub starve_serving : NodeState → Flush → NodeEvent Message → Seat → Answer
 starve_serving s flush (at.Told input) seat = starve_input input s seat
 starve_serving s flush at.Take seat = starve_beginning flush at.Take seat
 starve_serving s flush at.Device seat = starve_flush flush seat
@@ -320,18 +321,18 @@ starve_serving s flush at.Snap seat = starve_beginning flush at.Snap seat
 starve_serving s flush at.Restart seat = seat_step at.Restart seat
 
 -- an event where memory is wanting, by what the node does: one that is down or has failed takes none
-abbrev pub starve_doing : Doing → NodeEvent → Seat → Answer
+abbrev pub starve_doing : Doing → NodeEvent Message → Seat → Answer
 starve_doing Stopped event seat = seat_step event seat
 starve_doing Faulted event seat = seat_step event seat
 starve_doing (Opening phase) event seat = starve_awaiting phase event seat
 starve_doing (Serving s journal flush) event seat = starve_serving s flush event seat
 
 -- what an event answers, and the node after it, where memory is wanting for it
-abbrev pub starve : NodeEvent → Seat → Answer
+abbrev pub starve : NodeEvent Message → Seat → Answer
 starve event seat = starve_doing seat.doing event seat
 
 -- what a node may answer to an event, and be after it: what it answers where memory is there, or where it is wanting
-abbrev pub Gives : NodeEvent → Seat → Result Outcome Refusal → Seat → Type 0
+abbrev pub Gives : NodeEvent Message → Seat → Result Outcome Refusal → Seat → Type 0
 Gives event seat result next = ((result, next) ≡ seat_step event seat) ⊎ ((result, next) ≡ starve event seat)
 
 -- the next device call of a job fails; where none is due nothing happens

@@ -4,8 +4,9 @@ use Rattle.std.specs.Option.{option_map_or}
 use Rattle.rr_types.specs.declared.fact.Fact.{Fact}
 use Rattle.rr_types.specs.declared.refusal.Refusal.{Refusal}
 use Rattle.rr_types.specs.declared.refusal.Refusal.TheVariants as because
-use Rattle.rr_node.specs.declared.event.NodeEvent.{NodeEvent}
-use Rattle.rr_node.specs.declared.event.NodeEvent.TheVariants as at
+use Rattle.rr_types.specs.declared.event.NodeEvent.{NodeEvent}
+use Rattle.rr_types.specs.declared.message.Message.{Message}
+use Rattle.rr_types.specs.declared.event.NodeEvent.TheVariants as at
 use Rattle.rr_node.specs.declared.event.Stance.{Stance}
 use Rattle.rr_node.specs.declared.event.Stance.TheVariants as waits
 use Rattle.rr_node.specs.Seats.{Doing, Stopped, Faulted, Opening, Serving, Flush, Resting, Writing, Flushed, Switching}
@@ -46,13 +47,13 @@ refusal_by (Opening phase) = Some because.Down
 refusal_by (Serving s journal flush) = None
 
 -- whether an event gives nothing but, perhaps, a refusal where a node is up: any but a send and an acknowledgement
-abbrev pub gives_nothing : NodeEvent → Bool
+abbrev pub gives_nothing : NodeEvent Message → Bool
 gives_nothing at.Send = false
 gives_nothing at.Acknowledge = false
 gives_nothing event = true
 
 -- whether a node that does this is up, and the event is such a one
-abbrev pub is_quiet : NodeEvent → Doing → Bool
+abbrev pub is_quiet : NodeEvent Message → Doing → Bool
 is_quiet event Stopped = false
 is_quiet event Faulted = false
 is_quiet event (Opening phase) = false

@@ -24,8 +24,9 @@ use Rattle.rr_node.specs.declared.doing.Doing.TheVariants as does
 use Rattle.rr_node.specs.declared.serving.Serving.{Serving}
 use Rattle.rr_node.specs.declared.serving.Flush as code_2
 use Rattle.rr_node.specs.declared.serving.Flush.TheVariants as flush
-use Rattle.rr_node.specs.declared.event.NodeEvent.{NodeEvent}
-use Rattle.rr_node.specs.declared.event.NodeEvent.TheVariants as at
+use Rattle.rr_types.specs.declared.event.NodeEvent.{NodeEvent}
+use Rattle.rr_types.specs.declared.message.Message.{Message}
+use Rattle.rr_types.specs.declared.event.NodeEvent.TheVariants as at
 use Rattle.rr_node.specs.declared.event.Outcome.{Outcome}
 use Rattle.rr_node.specs.declared.event.Outcome.TheVariants.{Quiet}
 use Rattle.rr_node.specs.Seats as seats
@@ -156,18 +157,18 @@ IsSteady n p (does.Opening o) = (o.nodes ≡ n) × (o.node ≡ p) × (o.disk.due
 IsSteady n p (does.Serving s) = IsServing n p s
 
 -- the events that a node takes: a restart where it is down or has failed, its device calls while it opens, and any while it serves
-abbrev pub Takes : NodeEvent → seats.Doing → Type 0
+abbrev pub Takes : NodeEvent Message → seats.Doing → Type 0
 Takes event seats.Stopped = event ≡ at.Restart
 Takes event seats.Faulted = event ≡ at.Restart
 Takes event (seats.Opening phase) = event ≡ at.Device
 Takes event (seats.Serving s journal flush) = Unit {0}
 
 -- from one steady doing an event leads, with this answer, to another as the definitions say
-abbrev pub Carries : ℕ → ℕ → NodeEvent → code.Doing → Result Outcome Refusal → code.Doing → Type 0
+abbrev pub Carries : ℕ → ℕ → NodeEvent Message → code.Doing → Result Outcome Refusal → code.Doing → Type 0
 Carries n p event old answer new = IsSteady n p old → Gives event (seat_of n p old) answer (seat_of n p new) × IsSteady n p new
 
 -- the same of a node that is up, whichever node it is
-abbrev pub CarriesOn : NodeEvent → Serving → Result Outcome Refusal → code.Doing → Type 0
+abbrev pub CarriesOn : NodeEvent Message → Serving → Result Outcome Refusal → code.Doing → Type 0
 CarriesOn event s answer new = (n p : ℕ) → Carries n p event (does.Serving s) answer new
 
 -- the next device call of a job of a node with this core leads to this job over this journal, or is refused and the node has failed
@@ -223,6 +224,6 @@ quiet (Ok x) = Ok Quiet
 quiet (Err e) = Err e
 
 -- an event leads, with this quiet answer, from one doing of whichever node to another; without an answer nothing changes
-abbrev pub CarriesQuietly : NodeEvent → code.Doing → Option (Result (Unit {0}) Refusal) → code.Doing → Type 0
+abbrev pub CarriesQuietly : NodeEvent Message → code.Doing → Option (Result (Unit {0}) Refusal) → code.Doing → Type 0
 CarriesQuietly event old None new = new ≡ old
 CarriesQuietly event old (Some answer) new = (n p : ℕ) → Carries n p event old (quiet answer) new

@@ -7,17 +7,18 @@ ghost use Rattle.rr_types.specs.declared.refusal.Refusal.TheVariants.{Device};
 ghost use Rattle.rr_journal.specs.Openings.{Settling};
 ghost use Rattle.rr_node.specs.Seats as seats;
 ghost use Rattle.rr_node.specs.Seats.{crashed, seat_step};
-ghost use Rattle.rr_node.specs.declared.event.NodeEvent.{NodeEvent};
+ghost use Rattle.rr_types.specs.declared.event.NodeEvent.{NodeEvent};
+ghost use Rattle.rr_types.specs.declared.message.Message.{Message};
 ghost use Rattle.rr_node.specs.declared.serving.Serving.{Serving};
 ghost use Rattle.rr_node.specs.Stances.{is_quiet};
 ghost use Rattle.rr_node.specs.Views.{Carries, CarriesFailing, CarriesQuietly, Serves, IsServing, IsSteady, Takes, areas_of, calls_of, doing_of, due_of, seat_of};
 
-use crate::event::{BoundNames, NodeEvent, Outcome};
+use crate::event::{BoundNames, Outcome};
 use crate::serving::Serving;
 use rr_core::{Core, Opening, Progress};
 use rr_disk::{FailingDisk, MemDisk};
 use rr_journal::Journal;
-use rr_types::{NodeId, Nodes, Refusal};
+use rr_types::{Message, NodeEvent, NodeId, Nodes, Refusal};
 use std::alloc::{AllocError, Global};
 use std::mem;
 
@@ -68,7 +69,7 @@ impl Doing {
 
     /// The refusal of an event that the node doesn't take: of all but a restart while it is down or has failed, of all
     /// but its device calls while it opens, and of none while it serves. What is refused so moves nothing.
-    pub fn refusal_of(&self, event: &NodeEvent) -> Option<Refusal>
+    pub fn refusal_of(&self, event: &NodeEvent<Message>) -> Option<Refusal>
         ensures refused { (n p : ℕ) → IfSome result (λ e. seat_step event.now (seat_of n p self.now) ≡ (Err e, seat_of n p self.now)) }
         ensures taken { result ≡ None → Takes event.now (doing_of self.now) }
     {
@@ -96,7 +97,7 @@ impl Doing {
 pub fn go_on_quietly(
     alloc: Global,
     doing: &mut Doing,
-    event: &NodeEvent,
+    event: &NodeEvent<Message>,
 ) -> Option<Result<(), Refusal>>
     requires { (s : Serving) → doing.old ≡ Doing.Serving s → IsServing s.core.nodes s.core.node s }
     ensures taken { is_some result ≡ is_quiet event.now (doing_of doing.old) }
@@ -124,7 +125,7 @@ pub fn go_on(
     nodes: Nodes,
     node: NodeId,
     doing: &mut Doing,
-    event: &NodeEvent,
+    event: &NodeEvent<Message>,
 ) -> Result<Outcome, Refusal>
     requires steady { IsSteady nodes node doing.old }
     requires exists { node < nodes }
@@ -182,7 +183,7 @@ fn open_up(
 ) -> (Doing, Result<Outcome, Refusal>)
     requires exists { node < nodes }
     requires waits { (s : Serving) → doing ≢ Doing.Serving s }
-    ensures { (event : NodeEvent) → Takes event (doing_of doing) → Carries nodes node event doing result.1 result.0 }
+    ensures { (event : NodeEvent Message) → Takes event (doing_of doing) → Carries nodes node event doing result.1 result.0 }
 {
     match doing {
         Doing::Stopped(disk) => (restart(nodes, node, disk), Ok(Outcome::Quiet)),

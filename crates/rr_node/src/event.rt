@@ -1,31 +1,10 @@
-//! What happens at a node, and what comes of it.
+//! What comes of an event.
 
 ghost use Rattle.std.specs.Prelude.{◌≡◌};
 
 use rr_registry::Holding;
-use rr_types::{Input, Message, Name, Reply, RequestNo};
+use rr_types::{Message, Name, Reply, RequestNo};
 use std::marker::Model;
-
-/// What happens at a node, but for crashes.
-#[derive(Clone, Copy, Debug)]
-pub enum NodeEvent {
-    /// It is told this.
-    Told(Input),
-    /// A flush of the staged facts begins.
-    Take,
-    /// The next device call of the opening, the flush or the switch is made.
-    Device,
-    /// The synced group is marked.
-    Mark,
-    /// The oldest message that may leave leaves.
-    Send,
-    /// The oldest decided request that waits is acknowledged.
-    Acknowledge,
-    /// A switch to a snapshot of the marked facts begins.
-    Snap,
-    /// The node is started again.
-    Restart,
-}
 
 /// The bound names in byte order, with their holdings.
 #[derive(Debug, Drop)]

@@ -6,8 +6,8 @@
 //! This is in `crates/first_pages/src/node.rt`:
 //!
 //! ```rust
-//! use rr_node::{Node, NodeEvent, Stance};
-//! use rr_types::Refusal;
+//! use rr_node::{Node, Stance};
+//! use rr_types::{NodeEvent, Refusal};
 //! use std::alloc::Global;
 //!
 //! /// Starts a node that is down. It is opening then: each device call of that is an event of its own.
@@ -24,6 +24,6 @@ mod laws;
 mod node;
 mod serving;
 
-pub use event::{BoundNames, NodeEvent, Outcome, Stance};
+pub use event::{BoundNames, Outcome, Stance};
 pub use laws::laws_of_seats;
 pub use node::Node;

@@ -1,16 +1,17 @@
 //! A node over its disk.
 
 ghost use Rattle.std.specs.Prelude.{◌≡◌, ◌≢◌, ◌<◌, None, Err, is_some, IfSome, IfOk};
-ghost use Rattle.rr_node.specs.declared.event.NodeEvent.{NodeEvent};
+ghost use Rattle.rr_types.specs.declared.event.NodeEvent.{NodeEvent};
+ghost use Rattle.rr_types.specs.declared.message.Message.{Message};
 ghost use Rattle.rr_node.specs.Runs.{IsSpelt};
 ghost use Rattle.rr_node.specs.Seats.{Stopped, Gives, Fails, AtMostOneCall, crashed, seat_step};
 ghost use Rattle.rr_node.specs.Stances.{stance_of, synced_of, refusal_by, is_quiet};
 ghost use Rattle.rr_node.specs.Views.{quiet};
 
 use crate::doing::{Doing, crash, fail, go_on, go_on_quietly};
-use crate::event::{NodeEvent, Outcome, Stance};
+use crate::event::{Outcome, Stance};
 use rr_disk::{FailingDisk, MemDisk};
-use rr_types::{Fact, NodeId, Nodes, Refusal};
+use rr_types::{Fact, Message, NodeEvent, NodeId, Nodes, Refusal};
 use std::alloc::{AllocError, Global};
 use std::marker::Model;
 use std::mem;
@@ -89,7 +90,7 @@ impl Node {
     ///
     /// # Errors
     /// `OutOfMemory`, `Device`, `Damaged`, `Failed`, `Down`, `ListFull`, `RoundsOut`, `Busy`, `TooLarge`.
-    pub fn step(&mut self, alloc: Global, event: &NodeEvent) -> Result<Outcome, Refusal>
+    pub fn step(&mut self, alloc: Global, event: &NodeEvent<Message>) -> Result<Outcome, Refusal>
         ensures gives { Gives event.now self.old result self.new }
         ensures one_call { AtMostOneCall self.old self.new }
         ensures no_call { event.now ≢ NodeEvent.Device → self.new.calls ≡ self.old.calls }
@@ -107,7 +108,11 @@ impl Node {
     ///
     /// # Errors
     /// `OutOfMemory`, `Device`, `ListFull`, `RoundsOut`, `Busy`, `TooLarge`.
-    pub fn step_quietly(&mut self, alloc: Global, event: &NodeEvent) -> Option<Result<(), Refusal>>
+    pub fn step_quietly(
+        &mut self,
+        alloc: Global,
+        event: &NodeEvent<Message>,
+    ) -> Option<Result<(), Refusal>>
         ensures taken { is_some result ≡ is_quiet event.now self.old.doing }
         ensures gives { IfSome result (λ answer. Gives event.now self.old (quiet answer) self.new) }
         ensures kept { result ≡ None → self.new ≡ self.old }
@@ -121,7 +126,7 @@ impl Node {
     /// The refusal of each event but a restart and a device call, while the node isn't up. It moves nothing.
     pub fn refusal(&self) -> Option<Refusal>
         ensures value { result ≡ refusal_by self.now.doing }
-        ensures refused { IfSome result (λ e. (event : NodeEvent) → event ≢ NodeEvent.Restart → event ≢ NodeEvent.Device → seat_step event self.now ≡ (Err e, self.now)) }
+        ensures refused { IfSome result (λ e. (event : NodeEvent Message) → event ≢ NodeEvent.Restart → event ≢ NodeEvent.Device → seat_step event self.now ≡ (Err e, self.now)) }
         ensures spelt { IfSome result (λ _. IsSpelt self.now.doing) }
     {
         match &self.doing {

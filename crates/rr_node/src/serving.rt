@@ -9,10 +9,10 @@ ghost use Rattle.rr_node.specs.Stances.{stance_by, synced_by, gives_nothing};
 ghost use Rattle.rr_node.specs.Views.{IsServing, IsFlushOf, CarriesOn, CarriesFailing, FailsOn, IsDue, StepsOn, flush_of, quiet};
 
 use crate::doing::{Doing, NodeDisk};
-use crate::event::{NodeEvent, Outcome, Stance};
+use crate::event::{Outcome, Stance};
 use rr_core::Core;
 use rr_journal::{Body, BodyOut, BodySafe, GateSet, Job, Journal, SwitchJob, Switching, Synced};
-use rr_types::{Fact, Group, Input, Refusal};
+use rr_types::{Fact, Group, Input, Message, NodeEvent, Refusal};
 use std::alloc::Global;
 use std::mem;
 
@@ -116,7 +116,7 @@ impl Serving {
     }
 
     /// An event that gives nothing but, perhaps, a refusal, and is no device call.
-    pub fn take_in(&mut self, alloc: Global, event: &NodeEvent) -> Result<(), Refusal>
+    pub fn take_in(&mut self, alloc: Global, event: &NodeEvent<Message>) -> Result<(), Refusal>
         requires own { IsServing self.old.core.nodes self.old.core.node self.old }
         requires gives { gives_nothing event.now ≡ true }
         requires other { event.now ≢ NodeEvent.Device }
@@ -133,7 +133,7 @@ impl Serving {
     }
 
     /// The core is told an input.
-    fn tell(&mut self, input: &Input) -> Result<(), Refusal>
+    fn tell(&mut self, input: &Input<Message>) -> Result<(), Refusal>
         ensures { CarriesOn (NodeEvent.Told input.now) self.old (quiet result) (Doing.Serving self.new) }
     {
         self.core.step(input)

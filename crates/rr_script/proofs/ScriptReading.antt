@@ -6,16 +6,18 @@ use Rattle.std.specs.Str.{bytes_eq}
 use Rattle.std.proofs.lemmas.List.{append_assoc, append-nil}
 use Rattle.std.proofs.lemmas.Option.{same_Some}
 use Rattle.rr_types.specs.Names.{IsName}
+use Rattle.rr_types.specs.declared.command.Command.{Command}
 use Rattle.rr_types.specs.declared.refusal.Refusal.{Refusal}
 use Rattle.rr_types.specs.declared.refusal.Refusal.TheVariants.{OutOfMemory, BadEvent}
-use Rattle.rr_text.specs.declared.event.Event.TheVariants as events
+use Rattle.rr_types.specs.declared.input.Input.TheVariants as input
+use Rattle.rr_text.specs.Events.{told_at}
 use Rattle.rr_text.specs.Words.{spaced, IsCommand}
 use Rattle.rr_text.specs.Reading.{◌>>=◌, cut_at, name_at, first_node_at, submitted_at}
 use Rattle.rr_text.proofs.CutLemmas.{AtLeast, bind_some, cut_again, cut_takes, plain_by_test}
 use Rattle.rr_text.proofs.NumberLemmas.{decimal_plain}
 use Rattle.rr_text.proofs.WordReading.{AtLeast-weaken, chosen, same_text, name_again, name_takes, name_plain}
 use Rattle.rr_text.proofs.OpReading.{submitted_text, submitted_again, submitted_takes}
-use Rattle.rr_text.proofs.EventReading.{joined, first_node_again, first_node_takes, submit_text, event_plain}
+use Rattle.rr_text.proofs.EventReading.{joined, first_node_again, first_node_takes, spaced_op, event_plain}
 use Rattle.rr_text.proofs.LineReading.{AreLines, All-push, flat_map-push, fronts, lines_prefix, line_uncut, line_unread, nothing_printed, some_more}
 use Rattle.rr_script.specs.declared.script_line.ScriptLine.{ScriptLine}
 use Rattle.rr_script.specs.declared.script_line.ScriptLine.TheVariants.{Submit, Look}
@@ -48,6 +50,9 @@ behind_node n word text read print Fits make l few takes prints fits given =
       ap words_of (sym is) ∙ prints p.0.0 x.0 ∙ ap (λ (y : List ℕ). word ++ 32 ∷ (decimal p.0.0 ++ 32 ∷ y)) u.0 ∙ ap (λ (y : List ℕ). word ++ 32 ∷ y) t.0,
       subst (λ (k : ScriptLine). IsScriptLine n k) is (fits p.0.0 x.0 t.1 u.1),
     )
+
+submit_text : (p : ℕ) (c : Command) → words_of (Submit p c) ≡ codes "submit " ++ (decimal p ++ 32 ∷ submitted_text c)
+submit_text p c = ap (λ (y : List ℕ). codes "submit " ++ (decimal p ++ 32 ∷ (decimal c.request.client ++ 32 ∷ y))) (spaced_op (decimal c.request.seq) c.op)
 
 submit_takes : (n : ℕ) (text : List ℕ) (l : ScriptLine) → n ≤ 7 → submit_at n text ≡ Some l → Was n (codes "submit") text l
 submit_takes n text l few given = behind_node n (codes "submit") text submitted_at submitted_text IsCommand (λ p c. Submit p c) l few submitted_takes submit_text (λ p c lt h. (lt, h)) given
@@ -86,7 +91,7 @@ script_line_again n (Look p name) few h =
 
 -- the words of a line have no line feed
 script_line_plain : (n : ℕ) (l : ScriptLine) → n ≤ 7 → IsScriptLine n l → AtLeast 32 (words_of l)
-script_line_plain n (Submit p c) few h = event_plain n (events.Submit p c) few (record { node = h.0; fields = h.1 })
+script_line_plain n (Submit p c) few h = event_plain n (told_at p (input.Submit c)) few (record { node = h.0; fields = h.1 })
 script_line_plain n (Look p name) few h =
     joined (codes "look") (decimal p ++ 32 ∷ name) (plain_by_test (codes "look") refl) (joined (decimal p) name (decimal_plain p (omega (arith, h.0, few))) (AtLeast-weaken 32 33 name (omega arith) (name_plain name h.1)))
 

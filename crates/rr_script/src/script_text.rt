@@ -10,6 +10,7 @@ use crate::script_line::ScriptLine;
 use rr_text::Event;
 use rr_text::text_schedule::push_event;
 use rr_text::text_word::{push_byte, push_bytes, push_number_word, push_word};
+use rr_types::Input;
 use std::alloc::{AllocError, Global};
 
 fn push_script_words(out: &mut Vec<u8>, line: &ScriptLine) -> Result<(), AllocError>
@@ -17,7 +18,10 @@ fn push_script_words(out: &mut Vec<u8>, line: &ScriptLine) -> Result<(), AllocEr
 {
     let line = *line;
     match line {
-        ScriptLine::Submit { node, command } => push_event(out, &Event::Submit { node, command }),
+        ScriptLine::Submit { node, command } => push_event(
+            out,
+            &Event::told(node, Input::Submit(command)),
+        ),
         ScriptLine::Look { node, name } => {
             push_bytes(out, b"look")?;
             push_number_word(out, u64::from(node.index()))?;

@@ -151,7 +151,8 @@ no_node_text n = codes "no such node: a number is expected that is below" ++ 32 
 
 -- what is wrong with a line, and what is expected, of n nodes
 abbrev pub fault_text : ℕ → LineFault → List ℕ
-fault_text n NoCommand = codes "no such command: claim, update, release, transfer, look, list, watch, sync, at, stop, start, snapshot, status, again, help, quit or exit is expected"
+fault_text n NoCommand =
+    codes "no such command: claim, update, release, transfer, look, list, watch, sync, at, stop, start, snapshot, status, again, help, quit or exit is expected"
 fault_text n BadName = codes "no name: 1 to 64 bytes of a to z, 0 to 9 and - are expected"
 fault_text n BadValue = codes "no value: 1 to 64 bytes from ! to ~ are expected, and no space"
 fault_text n BadOwner = codes "no owner: a number below 4294967296 is expected"

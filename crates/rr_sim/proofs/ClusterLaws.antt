@@ -1,9 +1,10 @@
 -- Each event of a schedule takes the world along: a cluster in step with it stays so.
 use Rattle.std.proofs.Common.{◌≡◌, ◌≢◌, ◌⊎◌, inl, inr, ℕ, zero, suc, ◌+◌, ◌<◌, ◌≤◌, Bool, true, false, eqb, List, [], ◌∷◌, ◌++◌, length, map, Contains, Option, None, Some, Result, Ok, Err, refl, sym, ◌∙◌, ap, subst, arith}
 use Rattle.std.specs.Prelude.{All, IfErr, if◌then◌else◌, slice_get, slice_set}
-use Rattle.std.specs.Option.{option_map_or}
+use Rattle.std.specs.Option.{option_map, option_map_or, option_and_then}
 use Rattle.std.specs.List.{AllByRecursion, range_with_len}
 use Rattle.std.proofs.lemmas.Bool.{eqb-true}
+use Rattle.std.proofs.lemmas.Option.{same_Some}
 use Rattle.std.proofs.lemmas.List.{append-nil, append_cancel_left}
 use Rattle.std.proofs.lemmas.List.FromFn.{length-map-range_with_len}
 use Rattle.rr_types.specs.declared.message.Message.{Message}
@@ -11,22 +12,25 @@ use Rattle.rr_types.specs.declared.refusal.Refusal.{Refusal}
 use Rattle.rr_types.specs.Registry.{Bindings}
 use Rattle.rr_model.specs.Laws.{after_steps}
 use Rattle.rr_model.specs.NodeReached.{NamesRounds}
-use Rattle.rr_model.specs.World.{World, Step, Told, Reported, empty_world, IsRunFrom}
-use Rattle.rr_node.specs.declared.event.NodeEvent.{NodeEvent}
-use Rattle.rr_types.specs.declared.input.Input.TheVariants as input
-use Rattle.rr_node.specs.declared.event.NodeEvent.TheVariants as node
+use Rattle.rr_model.specs.World.{World, Step, Told as Says, Reported, empty_world, IsRunFrom}
+use Rattle.rr_types.specs.declared.event.NodeEvent.{NodeEvent}
+use Rattle.rr_types.specs.declared.input.Input.TheVariants.{Hear}
+use Rattle.rr_types.specs.declared.event.NodeEvent.TheVariants.{Told}
+use Rattle.rr_types.specs.Inputs.{happens_as, message_on}
 use Rattle.rr_node.specs.declared.event.Outcome.{Outcome}
 use Rattle.rr_node.specs.declared.event.Outcome.TheVariants.{Quiet, Left, Replied, Opened}
 use Rattle.rr_node.specs.Runs.{sent_by, told_by, MayCome, MayBe, MayFall, GoesOn, IsSpelt, StartsInStep, StepsInStep, FailsInStep, CrashesInStep}
 use Rattle.rr_node.specs.Seats.{Seat, new_seat, Answer, Gives, Fails, seat_step, starve, seat_fails, starve_fails, crashed}
 use Rattle.rr_node.specs.Worlds.{InStep}
+use Rattle.rr_node.proofs.ServingSteps.{nothing}
 use Rattle.rr_text.specs.declared.event.Event.{Event}
-use Rattle.rr_text.specs.declared.event.Event.TheVariants.{Submit, Hear, Suspect, Tick, Advance, Take, Device, Fail, Mark, Send, Ack, Snap, Crash, Restart}
+use Rattle.rr_text.specs.declared.event.Happening.{Happening}
+use Rattle.rr_text.specs.declared.event.Happening.TheVariants.{At, Fail, Crash}
 use Rattle.rr_text.specs.declared.report.ReportLine.TheVariants as line
-use Rattle.rr_text.specs.Scheduled.{node_of, IsInRange}
+use Rattle.rr_text.specs.Scheduled.{IsInRange}
 use Rattle.rr_text.specs.Words.{IsFill}
-use Rattle.rr_sim.specs.Clusters.{Cluster, new_cluster, note_of, with_answer, at_node, fail_at, hear_at, crash_at, event_step, Steps, IsSpeltAt, IsSpeltBehind}
-use Rattle.rr_sim.specs.Headline.{told_in, AreStepsOf, IsAlike}
+use Rattle.rr_sim.specs.Clusters.{Cluster, new_cluster, note_of, with_answer, at_node, fail_at, crash_at, happens, event_step, Steps, IsSpeltAt, IsSpeltBehind}
+use Rattle.rr_sim.specs.Headline.{told_in, AreStepsAt, AreStepsOf, IsAlike}
 use Rattle.rr_sim.proofs.TellingLaws.{bound_shown, told_parts}
 
 -- ---- lists
@@ -131,8 +135,8 @@ answered n p at May Are w c seat answer so h here g = record {
       count = length_replaced c.seats p answer.1 ∙ h.alike.count;
       nodes = λ q other there. by q other (get_replaced c.seats p q other answer.1 there);
       wire = g.wire ∙ ap (λ (ms : List Message). ms ++ sent_by answer.0) h.alike.wire;
-      told = g.trace ∙ ap (λ (ts : List Told). ts ++ told_by p answer.0) h.alike.told
-          ∙ ap (λ (ts : List Told). told_in c.lines ++ ts) (sym (notes_tell p at (length c.wire) answer.0))
+      told = g.trace ∙ ap (λ (ts : List Says). ts ++ told_by p answer.0) h.alike.told
+          ∙ ap (λ (ts : List Says). told_in c.lines ++ ts) (sym (notes_tell p at (length c.wire) answer.0))
           ∙ sym (told_parts c.lines (note_of p at (length c.wire) answer.0));
     };
   };
@@ -151,24 +155,41 @@ pub record NodeLaws (n : ℕ) : Type 0 where
   pub fails : (p : ℕ) → FailsInStep n p
   pub crashes : (p : ℕ) → CrashesInStep n p
 
--- an event may be nothing
-no_steps : (p : ℕ) (event : NodeEvent) → MayBe p event []
-no_steps p (node.Told (input.Submit c)) = inl refl
-no_steps p (node.Told (input.Hear m)) = inl refl
-no_steps p (node.Told (input.Suspect set)) = ([], refl)
-no_steps p (node.Told input.Tick) = ([], refl)
-no_steps p (node.Told input.Advance) = ([], refl)
-no_steps p node.Take = refl
-no_steps p node.Device = inl (inl refl)
-no_steps p node.Mark = refl
-no_steps p node.Send = inl refl
-no_steps p node.Acknowledge = inl refl
-no_steps p node.Snap = refl
-no_steps p node.Restart = refl
+-- only what is heard comes of hearing
+heard_is : (name : ℕ → Option Message) (event : NodeEvent ℕ) (m : Message) → happens_as name event ≡ Some (Told (Hear m)) → (k : ℕ) × (name k ≡ Some m)
+heard_is name (Told (Hear k)) m e = (k, by (name k) e)
+  where
+    by : (o : Option Message) → option_map Told (option_map Hear o) ≡ Some (Told (Hear m)) → o ≡ Some m
+    by None f = absurd (cc)
+    by (Some x) f = let same : x ≡ m = cc in ap Some same
+heard_is name (Told input) m e = absurd (cc)
+heard_is name event m e = absurd (cc)
+
+-- a message that is heard is on the wire, and for the node
+on_wire : (wire : List Message) (p k : ℕ) (m : Message) → message_on wire p k ≡ Some m → (slice_get wire k ≡ Some m) × (m.to ≡ p)
+on_wire wire p k m = by (slice_get wire k)
+  where
+    own : (x : Message) (b : Bool) → eqb x.to p ≡ b → (if b then Some x else None) ≡ Some m → (Some x ≡ Some m) × (m.to ≡ p)
+    own x true mine e = (e, subst (λ (y : Message). y.to ≡ p) (same_Some x m e) (eqb-true x.to p mine))
+    own x false mine e = absurd (cc)
+
+    by : (o : Option Message) → option_and_then (λ x. if eqb x.to p then Some x else None) o ≡ Some m → (o ≡ Some m) × (m.to ≡ p)
+    by None e = absurd (cc)
+    by (Some x) e = own x (eqb x.to p) refl e
+
+-- what happens at a node may be nothing
+are_none : (wire : List Message) (p : ℕ) (what : Happening) → AreStepsAt wire p what []
+are_none wire p (At event) = by (happens_as (message_on wire p) event)
+  where
+    by : (o : Option (NodeEvent Message)) → option_map_or (λ e. MayBe p e []) o ([] ≡ [])
+    by None = refl
+    by (Some e) = nothing p e
+are_none wire p (Fail fill) = inl refl
+are_none wire p (Crash a b fill) = inl refl
 
 module _ (n : ℕ) (laws : NodeLaws n) where
   -- an event at node p
-  node_takes : (p at : ℕ) (starved : Bool) (event : NodeEvent) (Are : List Step → Type 0) (w : World) (c : Cluster) → ((steps : List Step) → MayBe p event steps → Are steps)
+  node_takes : (p at : ℕ) (starved : Bool) (event : NodeEvent Message) (Are : List Step → Type 0) (w : World) (c : Cluster) → ((steps : List Step) → MayBe p event steps → Are steps)
       → IsClusterInStep n c w → MayCome n p w event → IsSpeltAt p (at_node p at starved event c) → Took n p at Are w c (at_node p at starved event c)
   node_takes p at starved event Are w c so h may spelt = by (slice_get c.seats p) refl
     where
@@ -183,7 +204,7 @@ module _ (n : ℕ) (laws : NodeLaws n) where
       step o = option_map_or (λ seat. with_answer p at c (result starved seat)) o c
 
       by : (o : Option Seat) → slice_get c.seats p ≡ o → Took n p at Are w c (at_node p at starved event c)
-      by None e = stays n p at Are w c (at_node p at starved event c) (so [] (no_steps p event)) (ap step e) h
+      by None e = stays n p at Are w c (at_node p at starved event c) (so [] (nothing p event)) (ap step e) h
       by (Some seat) e =
           let is : at_node p at starved event c ≡ with_answer p at c (result starved seat) = ap step e in
           let spelt_so : IsSpelt (result starved seat).1.doing = subst (λ (x : Cluster). IsSpeltAt p x) is spelt (result starved seat).1 (get_here c.seats p seat (result starved seat).1 e) in
@@ -235,61 +256,48 @@ module _ (n : ℕ) (laws : NodeLaws n) where
           (laws.crashes p a b fill seat w (bytes_of fill bytes) (h.alike.nodes p seat e))
           )
 
-  -- a message of the wire is heard
-  hear_takes : (p at : ℕ) (starved : Bool) (k : ℕ) (w : World) (c : Cluster) → IsClusterInStep n c w → (hear_at p at starved k c ≡ c) ⊎ IsSpeltAt p (hear_at p at starved k c)
-      → Took n p at (AreStepsOf c.wire (Hear p k)) w c (hear_at p at starved k c)
-  hear_takes p at starved k w c h (inl same) = stays n p at (AreStepsOf c.wire (Hear p k)) w c (hear_at p at starved k c) (inl refl) same h
-  hear_takes p at starved k w c h (inr spelt) = by (slice_get c.wire k) refl
+  -- what comes of an event of node p over the wire may come there
+  comes : (p : ℕ) (w : World) (c : Cluster) (event : NodeEvent ℕ) (made : NodeEvent Message) → IsClusterInStep n c w → happens_as (message_on c.wire p) event ≡ Some made → MayCome n p w made
+  comes p w c event (Told (Hear m)) h e =
+      let k = heard_is (message_on c.wire p) event m e in
+      let there = on_wire c.wire p k.0 m k.1 in
+      let good = all_at (IsProper n) c.wire k.0 m h.proper there.0 in
+      (subst (λ (ms : List Message). Contains ms m) (sym h.alike.wire) (contains_at c.wire k.0 m there.0), there.1, good.0, good.1)
+  comes p w c event (Told input) h e = tt
+  comes p w c event made h e = tt
+
+  -- an event of node p
+  event_takes : (p at : ℕ) (starved : Bool) (event : NodeEvent ℕ) (w : World) (c : Cluster) → IsClusterInStep n c w → IsSpeltAt p (happens p at starved (At event) c)
+      → Took n p at (AreStepsAt c.wire p (At event)) w c (happens p at starved (At event) c)
+  event_takes p at starved event w c h spelt = by (happens_as (message_on c.wire p) event) refl
     where
-      at_this : Bool → Message → Cluster
-      at_this b m = if b then at_node p at starved (node.Told (input.Hear m)) c else c
+      step : Option (NodeEvent Message) → Cluster
+      step o = option_map_or (λ e. at_node p at starved e c) o c
 
-      step : Option Message → Cluster
-      step o = option_map_or (λ m. at_this (eqb m.to p) m) o c
+      are : Option (NodeEvent Message) → List Step → Type 0
+      are o steps = option_map_or (λ e. MayBe p e steps) o (steps ≡ [])
 
-      comes : (m : Message) → slice_get c.wire k ≡ Some m → m.to ≡ p → MayCome n p w (node.Told (input.Hear m))
-      comes m e own = let good = all_at (IsProper n) c.wire k m h.proper e in (subst (λ (ms : List Message). Contains ms m) (sym h.alike.wire) (contains_at c.wire k m e), own, good.0, good.1)
-
-      heard : (m : Message) (b : Bool) → slice_get c.wire k ≡ Some m → eqb m.to p ≡ b → hear_at p at starved k c ≡ at_this b m → Took n p at (AreStepsOf c.wire (Hear p k)) w c (hear_at p at starved k c)
-      heard m false e own is = stays n p at (AreStepsOf c.wire (Hear p k)) w c (hear_at p at starved k c) (inl refl) is h
-      heard m true e own is = subst (λ (x : Cluster). Took n p at (AreStepsOf c.wire (Hear p k)) w c x) (sym is) (
-          node_takes p at starved (node.Told (input.Hear m)) (AreStepsOf c.wire (Hear p k)) w c (λ steps may. inr (m, e, may)) h (comes m e (eqb-true m.to p own))
-          (subst (λ (x : Cluster). IsSpeltAt p x) is spelt)
+      by : (o : Option (NodeEvent Message)) → happens_as (message_on c.wire p) event ≡ o → Took n p at (AreStepsAt c.wire p (At event)) w c (happens p at starved (At event) c)
+      by None e = stays n p at (AreStepsAt c.wire p (At event)) w c (happens p at starved (At event) c) (are_none c.wire p (At event)) (ap step e) h
+      by (Some made) e =
+          subst (λ (x : Cluster). Took n p at (AreStepsAt c.wire p (At event)) w c x) (sym (ap step e)) (
+          node_takes p at starved made (AreStepsAt c.wire p (At event)) w c (λ steps may. subst (λ (o : Option (NodeEvent Message)). are o steps) (sym e) may) h (comes p w c event made h e)
+          (subst (λ (x : Cluster). IsSpeltAt p x) (ap step e) spelt)
           )
 
-      by : (o : Option Message) → slice_get c.wire k ≡ o → Took n p at (AreStepsOf c.wire (Hear p k)) w c (hear_at p at starved k c)
-      by None e = stays n p at (AreStepsOf c.wire (Hear p k)) w c (hear_at p at starved k c) (inl refl) (ap step e) h
-      by (Some m) e = heard m (eqb m.to p) e refl (ap step e)
+  -- what an event of a schedule is
+  what_takes : (p at : ℕ) (starved : Bool) (what : Happening) (m : ℕ) (w : World) (c : Cluster) → IsInRange m what → IsClusterInStep n c w → (happens p at starved what c ≡ c) ⊎ IsSpeltAt p (happens p at starved what c)
+      → Took n p at (AreStepsAt c.wire p what) w c (happens p at starved what c)
+  what_takes p at starved what m w c range h (inl same) = stays n p at (AreStepsAt c.wire p what) w c (happens p at starved what c) (are_none c.wire p what) same h
+  what_takes p at starved (At event) m w c range h (inr spelt) = event_takes p at starved event w c h spelt
+  what_takes p at starved (Fail fill) m w c range h (inr spelt) = failing_takes p at starved fill w c range h
+  what_takes p at starved (Crash a b fill) m w c range h (inr spelt) = crash_takes p a b at fill w c range.2 h
 
-  -- any other event at node p, or nothing
-  takes : (p at : ℕ) (starved : Bool) (event : NodeEvent) (w : World) (c : Cluster) → IsClusterInStep n c w → MayCome n p w event
-      → (at_node p at starved event c ≡ c) ⊎ IsSpeltAt p (at_node p at starved event c) → Took n p at (MayBe p event) w c (at_node p at starved event c)
-  takes p at starved event w c h may (inl same) = stays n p at (MayBe p event) w c (at_node p at starved event c) (no_steps p event) same h
-  takes p at starved event w c h may (inr spelt) = node_takes p at starved event (MayBe p event) w c (λ steps m. m) h may spelt
-
-  -- an event of a schedule
-  event_takes : (at : ℕ) (starved : Bool) (e : Event) (m : ℕ) (w : World) (c : Cluster) → IsInRange m e → IsClusterInStep n c w → IsSpeltBehind e c (event_step at starved e c)
-      → Took n (node_of e) at (AreStepsOf c.wire e) w c (event_step at starved e c)
-  event_takes at starved (Submit p v) m w c range h spelt = takes p at starved (node.Told (input.Submit v)) w c h tt spelt
-  event_takes at starved (Hear p k) m w c range h spelt = hear_takes p at starved k w c h spelt
-  event_takes at starved (Suspect p set) m w c range h spelt = takes p at starved (node.Told (input.Suspect set)) w c h tt spelt
-  event_takes at starved (Tick p) m w c range h spelt = takes p at starved (node.Told input.Tick) w c h tt spelt
-  event_takes at starved (Advance p) m w c range h spelt = takes p at starved (node.Told input.Advance) w c h tt spelt
-  event_takes at starved (Take p) m w c range h spelt = takes p at starved node.Take w c h tt spelt
-  event_takes at starved (Device p) m w c range h spelt = takes p at starved node.Device w c h tt spelt
-  event_takes at starved (Fail p fill) m w c range h spelt = failing_takes p at starved fill w c range h
-  event_takes at starved (Mark p) m w c range h spelt = takes p at starved node.Mark w c h tt spelt
-  event_takes at starved (Send p) m w c range h spelt = takes p at starved node.Send w c h tt spelt
-  event_takes at starved (Ack p) m w c range h spelt = takes p at starved node.Acknowledge w c h tt spelt
-  event_takes at starved (Snap p) m w c range h spelt = takes p at starved node.Snap w c h tt spelt
-  event_takes at starved (Crash p a b fill) m w c range h spelt = crash_takes p a b at fill w c range.2 h
-  event_takes at starved (Restart p) m w c range h spelt = takes p at starved node.Restart w c h tt spelt
-
-  pub step_takes : (at : ℕ) (e : Event) (m : ℕ) (w : World) (old new : Cluster) → IsInRange m e → IsClusterInStep n old w → Steps at e old new → IsSpeltBehind e old new → Took n (node_of e) at (AreStepsOf old.wire e) w old new
+  pub step_takes : (at : ℕ) (e : Event) (m : ℕ) (w : World) (old new : Cluster) → IsInRange m e.what → IsClusterInStep n old w → Steps at e old new → IsSpeltBehind e old new → Took n e.node at (AreStepsOf old.wire e) w old new
   step_takes at e m w old new range h (inl is) spelt =
-      subst (λ (x : Cluster). Took n (node_of e) at (AreStepsOf old.wire e) w old x) (sym is) (event_takes at false e m w old range h (subst (λ (x : Cluster). IsSpeltBehind e old x) is spelt))
+      subst (λ (x : Cluster). Took n e.node at (AreStepsOf old.wire e) w old x) (sym is) (what_takes e.node at false e.what m w old range h (subst (λ (x : Cluster). IsSpeltBehind e old x) is spelt))
   step_takes at e m w old new range h (inr is) spelt =
-      subst (λ (x : Cluster). Took n (node_of e) at (AreStepsOf old.wire e) w old x) (sym is) (event_takes at true e m w old range h (subst (λ (x : Cluster). IsSpeltBehind e old x) is spelt))
+      subst (λ (x : Cluster). Took n e.node at (AreStepsOf old.wire e) w old x) (sym is) (what_takes e.node at true e.what m w old range h (subst (λ (x : Cluster). IsSpeltBehind e old x) is spelt))
 
   -- nodes that were never started are in step with the empty world
   seats_from : (k count : ℕ) (p : ℕ) (seat : Seat) → k + count ≤ n → slice_get (map (new_seat n) (range_with_len k count)) p ≡ Some seat → InStep n (k + p) seat empty_world

@@ -3,8 +3,9 @@ use Rattle.std.proofs.Common.{◌≡◌, ℕ, zero, suc, ◌+◌, ◌*◌, ◌<�
 use Rattle.std.proofs.lemmas.List.{flat_map_more, length-append, length-replicate}
 use Rattle.std.specs.List.{AllByRecursion, flat_map, range_with_len}
 use Rattle.rand_pcg.specs.Lcg.{Lcg}
+use Rattle.rr_types.specs.declared.event.NodeEvent.TheVariants.{Device}
 use Rattle.rr_text.specs.declared.event.Event.{Event}
-use Rattle.rr_text.specs.declared.event.Event.TheVariants.{Device}
+use Rattle.rr_text.specs.Events.{event_of}
 use Rattle.rr_text.specs.Scheduled.{IsEvent, IsSchedule}
 use Rattle.rr_sim.specs.Clusters.{Cluster}
 use Rattle.rr_sim.specs.Random.{opening_of, openings, drawn, behind, StepsInMemory, AreDrawn, Draws}
@@ -24,7 +25,7 @@ pub each_of_both : (P : Event → Type 0) (xs ys : List Event) → AllByRecursio
 each_of_both P [] ys all more = more
 each_of_both P (x ∷ xs) ys (here, all) more = (here, each_of_both P xs ys all more)
 
-calls_are_events : (n p k : ℕ) → p < n → AllByRecursion (IsEvent n) (replicate k (Device p))
+calls_are_events : (n p k : ℕ) → p < n → AllByRecursion (IsEvent n) (replicate k (event_of p Device))
 calls_are_events n p zero below = tt
 calls_are_events n p (suc k) below = (record { node = below; fields = tt }, calls_are_events n p k below)
 
@@ -41,7 +42,7 @@ count_from : (a k : ℕ) → length (flat_map opening_of (range_with_len a k)) �
 count_from a zero = refl
 count_from a (suc k) =
     let front = length-append (opening_of a) (flat_map opening_of (range_with_len (a + 1) k)) in
-    let calls = length-replicate 9 (Device a) in
+    let calls = length-replicate 9 (event_of a Device) in
     let rest = count_from (a + 1) k in
     omega (front, calls, rest, arith)
 

@@ -6,7 +6,8 @@ use Rattle.std.proofs.lemmas.List.{append-nil}
 use Rattle.std.proofs.lemmas.Option.{slice_get_read}
 use Rattle.std.specs.declared.alloc.AllocError.{AllocError}
 use Rattle.rr_types.specs.declared.refusal.Refusal.{Refusal}
-use Rattle.rr_node.specs.declared.event.NodeEvent.{NodeEvent}
+use Rattle.rr_types.specs.declared.event.NodeEvent.{NodeEvent}
+use Rattle.rr_types.specs.declared.message.Message.{Message}
 use Rattle.rr_node.specs.declared.event.Outcome.{Outcome}
 use Rattle.rr_node.specs.declared.event.Outcome.TheVariants.{Quiet}
 use Rattle.rr_node.specs.Runs.{sent_by, IsSpelt}
@@ -44,7 +45,7 @@ module _ (r : Result (Unit {0}) AllocError) (k p at : ℕ) (c new : Cluster) (se
   left_so h = h ∙ ap (λ (i : ℕ). placed i p at c answer next) is
 
   -- the answer to an event
-  pub gave_so : (event : NodeEvent) → Gives event seat answer next → OnOk r (IsEither (λ starved. new ≡ at_node p at starved event c))
+  pub gave_so : (event : NodeEvent Message) → Gives event seat answer next → OnOk r (IsEither (λ starved. new ≡ at_node p at starved event c))
   gave_so event gives = on_ok r (new ≡ placed k p at c answer next) (IsEither (λ starved. new ≡ at_node p at starved event c)) (by gives) left
     where
       by : Gives event seat answer next → new ≡ placed k p at c answer next → IsEither (λ starved. new ≡ at_node p at starved event c)

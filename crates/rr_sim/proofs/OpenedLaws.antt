@@ -2,8 +2,9 @@
 use Rattle.std.proofs.Common.{◌≡◌, inl, inr, ℕ, zero, suc, ◌+◌, List, [], ◌∷◌, replicate, ◌∙◌, ap, subst}
 use Rattle.std.specs.Prelude.{false}
 use Rattle.std.specs.List.{AllByRecursion, flat_map, range_with_len}
+use Rattle.rr_types.specs.declared.event.NodeEvent.TheVariants.{Device}
 use Rattle.rr_text.specs.declared.event.Event.{Event}
-use Rattle.rr_text.specs.declared.event.Event.TheVariants.{Device}
+use Rattle.rr_text.specs.Events.{event_of}
 use Rattle.rr_sim.specs.Clusters.{Cluster, new_cluster, event_step, after_events}
 use Rattle.rr_sim.specs.Random.{opening_of, openings, IsFailing, StepsInMemory, LeadsInMemory, opened}
 use Rattle.rr_sim.proofs.DrawingLemmas.{each_of_both}
@@ -12,12 +13,12 @@ use Rattle.rr_sim.proofs.DrawingLemmas.{each_of_both}
 abbrev pub AreCalm : List Event → Type 0
 AreCalm events = AllByRecursion (λ e. IsFailing e → ⊥) events
 
-calls_are_calm : (p k : ℕ) → AreCalm (replicate k (Device p))
+calls_are_calm : (p k : ℕ) → AreCalm (replicate k (event_of p Device))
 calls_are_calm p zero = tt
-calls_are_calm p (suc k) = (λ f. absurd (let e = f.2 in cc), calls_are_calm p k)
+calls_are_calm p (suc k) = (λ f. absurd (let e = f.1 in cc), calls_are_calm p k)
 
 opening_is_calm : (p : ℕ) → AreCalm (opening_of p)
-opening_is_calm p = (λ f. absurd (let e = f.2 in cc), calls_are_calm p 9)
+opening_is_calm p = (λ f. absurd (let e = f.1 in cc), calls_are_calm p 9)
 
 openings_are_calm : (a k : ℕ) → AreCalm (flat_map opening_of (range_with_len a k))
 openings_are_calm a zero = tt

@@ -1,22 +1,22 @@
 -- The line of a refusal is that of the event that was refused.
 use Rattle.std.proofs.Common.{◌≡◌, ◌⊎◌, inl, inr, ℕ, ◌+◌, ◌≤◌, Bool, true, false, List, [], ◌∷◌, ◌++◌, length, Contains, Option, None, Some, Result, Ok, Err, refl, sym, ap, subst, arith}
-use Rattle.std.specs.Prelude.{if◌then◌else◌, ◌==◌, slice_get, slice_set}
+use Rattle.std.specs.Prelude.{if◌then◌else◌, slice_get, slice_set}
 use Rattle.std.specs.Option.{option_map_or}
 use Rattle.std.proofs.lemmas.List.{append-nil}
 use Rattle.std.proofs.lemmas.List.Elements.{Contains-append_cases}
 use Rattle.rr_types.specs.declared.message.Message.{Message}
 use Rattle.rr_types.specs.declared.refusal.Refusal.{Refusal}
-use Rattle.rr_node.specs.declared.event.NodeEvent.{NodeEvent}
-use Rattle.rr_types.specs.declared.input.Input.TheVariants as input
-use Rattle.rr_node.specs.declared.event.NodeEvent.TheVariants as node
+use Rattle.rr_types.specs.declared.event.NodeEvent.{NodeEvent}
+use Rattle.rr_types.specs.Inputs.{happens_as, message_on}
 use Rattle.rr_node.specs.declared.event.Outcome.{Outcome}
 use Rattle.rr_node.specs.declared.event.Outcome.TheVariants.{Quiet, Left, Replied, Opened}
 use Rattle.rr_node.specs.Seats.{Seat, Answer, seat_step, starve, seat_fails, starve_fails, crashed}
 use Rattle.rr_text.specs.declared.event.Event.{Event}
-use Rattle.rr_text.specs.declared.event.Event.TheVariants.{Submit, Hear, Suspect, Tick, Advance, Take, Device, Fail, Mark, Send, Ack, Snap, Crash, Restart}
+use Rattle.rr_text.specs.declared.event.Happening.{Happening}
+use Rattle.rr_text.specs.declared.event.Happening.TheVariants.{At, Fail, Crash}
 use Rattle.rr_text.specs.declared.report.ReportLine.{ReportLine}
 use Rattle.rr_text.specs.declared.report.ReportLine.TheVariants as line
-use Rattle.rr_sim.specs.Clusters.{Cluster, note_of, with_answer, at_node, hear_at, crash_at, event_step, Steps, Leads}
+use Rattle.rr_sim.specs.Clusters.{Cluster, note_of, with_answer, at_node, crash_at, happens, event_step, Steps, Leads}
 use Rattle.rr_sim.proofs.TellingLaws.{only}
 
 -- what the event of this line adds to the report, one line at most: a refusal among it is all of it, and of this line
@@ -58,19 +58,12 @@ by_seat : (p at : ℕ) (c : Cluster) (answer : Seat → Answer) (o : Option Seat
 by_seat p at c answer None = none at c
 by_seat p at c answer (Some seat) = answered p at c (answer seat)
 
-node_notes : (p at : ℕ) (starved : Bool) (event : NodeEvent) (c : Cluster) → Notes at c (at_node p at starved event c)
+node_notes : (p at : ℕ) (starved : Bool) (event : NodeEvent Message) (c : Cluster) → Notes at c (at_node p at starved event c)
 node_notes p at starved event c = by_seat p at c (λ seat. if starved then starve event seat else seat_step event seat) (slice_get c.seats p)
 
-hear_notes : (p at : ℕ) (starved : Bool) (k : ℕ) (c : Cluster) → Notes at c (hear_at p at starved k c)
-hear_notes p at starved k c = by (slice_get c.wire k)
-  where
-    at_this : (m : Message) (b : Bool) → Notes at c (if b then at_node p at starved (node.Told (input.Hear m)) c else c)
-    at_this m true = node_notes p at starved (node.Told (input.Hear m)) c
-    at_this m false = none at c
-
-    by : (o : Option Message) → Notes at c (option_map_or (λ m. if m.to == p then at_node p at starved (node.Told (input.Hear m)) c else c) o c)
-    by None = none at c
-    by (Some m) = at_this m (m.to == p)
+some_notes : (p at : ℕ) (starved : Bool) (o : Option (NodeEvent Message)) (c : Cluster) → Notes at c (option_map_or (λ e. at_node p at starved e c) o c)
+some_notes p at starved None c = none at c
+some_notes p at starved (Some event) c = node_notes p at starved event c
 
 crash_notes : (p at a b : ℕ) (fill : List ℕ) (c : Cluster) → Notes at c (crash_at p a b fill c)
 crash_notes p at a b fill c = by (slice_get c.seats p)
@@ -79,21 +72,13 @@ crash_notes p at a b fill c = by (slice_get c.seats p)
     by None = none at c
     by (Some seat) = record { notes = []; lines = sym (append-nil c.lines); few = omega arith; own = λ k r held. absurd (omega (arith, held.1)) }
 
+what_notes : (p at : ℕ) (starved : Bool) (what : Happening) (c : Cluster) → Notes at c (happens p at starved what c)
+what_notes p at starved (At event) c = some_notes p at starved (happens_as (message_on c.wire p) event) c
+what_notes p at starved (Fail fill) c = by_seat p at c (λ seat. if starved then starve_fails fill seat else seat_fails fill seat) (slice_get c.seats p)
+what_notes p at starved (Crash a b fill) c = crash_notes p at a b fill c
+
 event_notes : (at : ℕ) (starved : Bool) (e : Event) (c : Cluster) → Notes at c (event_step at starved e c)
-event_notes at starved (Submit p v) c = node_notes p at starved (node.Told (input.Submit v)) c
-event_notes at starved (Hear p k) c = hear_notes p at starved k c
-event_notes at starved (Suspect p set) c = node_notes p at starved (node.Told (input.Suspect set)) c
-event_notes at starved (Tick p) c = node_notes p at starved (node.Told input.Tick) c
-event_notes at starved (Advance p) c = node_notes p at starved (node.Told input.Advance) c
-event_notes at starved (Take p) c = node_notes p at starved node.Take c
-event_notes at starved (Device p) c = node_notes p at starved node.Device c
-event_notes at starved (Fail p fill) c = by_seat p at c (λ seat. if starved then starve_fails fill seat else seat_fails fill seat) (slice_get c.seats p)
-event_notes at starved (Mark p) c = node_notes p at starved node.Mark c
-event_notes at starved (Send p) c = node_notes p at starved node.Send c
-event_notes at starved (Ack p) c = node_notes p at starved node.Acknowledge c
-event_notes at starved (Snap p) c = node_notes p at starved node.Snap c
-event_notes at starved (Crash p a b fill) c = crash_notes p at a b fill c
-event_notes at starved (Restart p) c = node_notes p at starved node.Restart c
+event_notes at starved e c = what_notes e.node at starved e.what c
 
 pub step_notes : (at : ℕ) (e : Event) (old new : Cluster) → Steps at e old new → Notes at old new
 step_notes at e old new (inl is) = subst (λ (x : Cluster). Notes at old x) (sym is) (event_notes at false e old)

@@ -1,23 +1,28 @@
 -- What a run of a schedule submits was submitted by an event of it.
-use Rattle.std.proofs.Common.{◌≡◌, ◌⊎◌, inl, inr, ℕ, suc, ◌+◌, ◌<◌, ◌≤◌, List, [], ◌∷◌, ◌++◌, map, Contains, Some, refl, sym, ◌∙◌, ap, subst, arith}
+use Rattle.std.proofs.Common.{◌≡◌, ◌⊎◌, inl, inr, ℕ, suc, ◌+◌, ◌<◌, ◌≤◌, List, [], ◌∷◌, ◌++◌, map, Contains, Option, None, Some, refl, sym, ◌∙◌, ap, subst, arith}
 use Rattle.std.specs.Prelude.{slice_get}
+use Rattle.std.specs.Option.{option_map, option_map_or}
 use Rattle.std.proofs.lemmas.List.Sums.{fold-append}
 use Rattle.std.proofs.lemmas.List.Elements.{Contains-append_cases}
 use Rattle.rr_types.specs.declared.command.Command.{Command}
 use Rattle.rr_types.specs.declared.fact.Fact.{Fact}
 use Rattle.rr_types.specs.declared.message.Message.{Message}
+use Rattle.rr_types.specs.declared.input.Input.TheVariants.{Submit, Hear}
+use Rattle.rr_types.specs.declared.event.NodeEvent.TheVariants.{Told, Device, Send, Acknowledge}
+use Rattle.rr_types.specs.Inputs.{message_on}
 use Rattle.rr_types.specs.declared.refusal.Refusal.{Refusal}
 use Rattle.rr_model.specs.Laws.{after_steps}
 use Rattle.rr_model.specs.World as world
-use Rattle.rr_model.specs.World.{World, Step, Stage, Settle, GoDown, Acknowledge, after_step, empty_world, end_of}
+use Rattle.rr_model.specs.World.{World, Step, Stage, Settle, GoDown, after_step, empty_world, end_of}
 use Rattle.rr_text.specs.declared.event.Event.{Event}
-use Rattle.rr_text.specs.declared.event.Event.TheVariants.{Submit, Hear, Suspect, Tick, Advance, Take, Device, Fail, Mark, Send, Ack, Snap, Crash, Restart}
+use Rattle.rr_text.specs.declared.event.Happening.{Happening}
+use Rattle.rr_text.specs.declared.event.Happening.TheVariants.{At, Fail, Crash}
 use Rattle.rr_text.specs.declared.report.ReportLine.{ReportLine}
 use Rattle.rr_text.specs.declared.report.ReportLine.TheVariants as line
-use Rattle.rr_text.specs.Scheduled.{node_of}
+use Rattle.rr_text.specs.Events.{told_at}
 use Rattle.rr_sim.specs.Clusters.{Cluster, new_cluster, Steps, Leads}
-use Rattle.rr_node.specs.Runs.{AreStaged, AreStagedBehind, MayFall, IsDeviceCall}
-use Rattle.rr_sim.specs.Headline.{AreStepsOf, TakesAlong, in_turn}
+use Rattle.rr_node.specs.Runs.{AreStaged, AreStagedBehind, MayBe, MayFall, IsDeviceCall}
+use Rattle.rr_sim.specs.Headline.{AreStepsAt, AreStepsOf, TakesAlong, in_turn}
 use Rattle.rr_sim.proofs.RefusedLaws.{refused_before_or_now, refused_from}
 use Rattle.rr_sim.proofs.TellingLaws.{only}
 
@@ -57,36 +62,35 @@ record Submits (e : Event) (steps : List Step) : Type 0 where
   node : ℕ
   command : Command
   facts : List Fact
-  event : e ≡ Submit node command
+  event : e ≡ told_at node (Submit command)
   are : steps ≡ world.Submit node command ∷ map (Stage node) facts
 
+-- hearing a message or none submits nothing
+hears_some : (p : ℕ) (o : Option Message) (steps : List Step) → option_map_or (λ e. MayBe p e steps) (option_map Told (option_map Hear o)) (steps ≡ []) → SubmitNothing steps
+hears_some p None steps h = nothing steps h
+hears_some p (Some m) steps h = hears p m steps h
+
 -- the steps of an event submit nothing, or it is a submit
-of_event : (wire : List Message) (e : Event) (steps : List Step) → AreStepsOf wire e steps → Submits e steps ⊎ SubmitNothing steps
-of_event wire (Submit p c) steps (inl e) = inr (nothing steps e)
-of_event wire (Submit p c) steps (inr (facts, e)) = inl (record { node = p; command = c; facts = facts; event = refl; are = e })
-of_event wire (Hear p k) steps (inl e) = inr (nothing steps e)
-of_event wire (Hear p k) steps (inr (m, at, h)) = inr (hears p m steps h)
-of_event wire (Suspect p set) steps h = inr (are_staged p steps h)
-of_event wire (Tick p) steps h = inr (are_staged p steps h)
-of_event wire (Advance p) steps h = inr (are_staged p steps h)
-of_event wire (Take p) steps h = inr (nothing steps h)
-of_event wire (Device p) steps h = inr (calls p steps h)
-of_event wire (Fail p fill) steps h = inr (falls p steps h)
-of_event wire (Mark p) steps h = inr (nothing steps h)
-of_event wire (Send p) steps (inl e) = inr (nothing steps e)
-of_event wire (Send p) steps (inr (m, e)) = inr (so (world.Send p m ∷ []) steps e (λ w. refl))
-of_event wire (Ack p) steps (inl e) = inr (nothing steps e)
-of_event wire (Ack p) steps (inr (q, reply, e)) = inr (so (Acknowledge p q reply ∷ []) steps e (λ w. refl))
-of_event wire (Snap p) steps h = inr (nothing steps h)
-of_event wire (Crash p a b fill) steps h = inr (falls p steps h)
-of_event wire (Restart p) steps h = inr (nothing steps h)
+of_what : (wire : List Message) (p : ℕ) (what : Happening) (steps : List Step) → AreStepsAt wire p what steps → Submits (record { node = p; what = what }) steps ⊎ SubmitNothing steps
+of_what wire p (At (Told (Submit c))) steps (inl e) = inr (nothing steps e)
+of_what wire p (At (Told (Submit c))) steps (inr (facts, e)) = inl (record { node = p; command = c; facts = facts; event = refl; are = e })
+of_what wire p (At (Told (Hear k))) steps h = inr (hears_some p (message_on wire p k) steps h)
+of_what wire p (At (Told input)) steps h = inr (are_staged p steps h)
+of_what wire p (At Device) steps h = inr (calls p steps h)
+of_what wire p (At Send) steps (inl e) = inr (nothing steps e)
+of_what wire p (At Send) steps (inr (m, e)) = inr (so (world.Send p m ∷ []) steps e (λ w. refl))
+of_what wire p (At Acknowledge) steps (inl e) = inr (nothing steps e)
+of_what wire p (At Acknowledge) steps (inr (q, reply, e)) = inr (so (world.Acknowledge p q reply ∷ []) steps e (λ w. refl))
+of_what wire p (At event) steps h = inr (nothing steps h)
+of_what wire p (Fail fill) steps h = inr (falls p steps h)
+of_what wire p (Crash a b fill) steps h = inr (falls p steps h)
 
 -- it was submitted before, or by this event, whose steps are more than going down
 abbrev pub BeforeOrBy : World → Event → List Step → Command → Type 0
-BeforeOrBy w e steps c = Contains w.submitted c ⊎ ((p : ℕ) × (e ≡ Submit p c) × (MayFall p steps → ⊥))
+BeforeOrBy w e steps c = Contains w.submitted c ⊎ ((p : ℕ) × (e ≡ told_at p (Submit c)) × (MayFall p steps → ⊥))
 
 by_steps : (wire : List Message) (e : Event) (steps : List Step) (w : World) (c : Command) → AreStepsOf wire e steps → Contains (after_steps w steps).submitted c → BeforeOrBy w e steps c
-by_steps wire e steps w c of there = by (of_event wire e steps of)
+by_steps wire e steps w c of there = by (of_what wire e.node e.what steps of)
   where
     no_fall : (h : Submits e steps) → MayFall h.node steps → ⊥
     no_fall h (inl is) = let none : [] ≡ world.Submit h.node h.command ∷ map (Stage h.node) h.facts = sym is ∙ h.are in absurd (cc)
@@ -94,7 +98,7 @@ by_steps wire e steps w c of there = by (of_event wire e steps of)
 
     last : (h : Submits e steps) → Contains w.submitted c ⊎ Contains (h.command ∷ []) c → BeforeOrBy w e steps c
     last h (inl old) = inl old
-    last h (inr new) = inr (h.node, subst (λ (x : Command). e ≡ Submit h.node x) (only c h.command new) h.event, no_fall h)
+    last h (inr new) = inr (h.node, subst (λ (x : Command). e ≡ told_at h.node (Submit x)) (only c h.command new) h.event, no_fall h)
 
     by : Submits e steps ⊎ SubmitNothing steps → BeforeOrBy w e steps c
     by (inl h) =
@@ -105,7 +109,7 @@ by_steps wire e steps w c of there = by (of_event wire e steps of)
 
 -- an event of the schedule, whose first stands on this line, submits the command and isn't refused
 abbrev pub IsSubmittedIn : ℕ → List Event → List ReportLine → Command → Type 0
-IsSubmittedIn at events lines c = (place : ℕ) × (p : ℕ) × (slice_get events place ≡ Some (Submit p c)) × ((refusal : Refusal) → Contains lines (line.Refuse (at + place) refusal) → ⊥)
+IsSubmittedIn at events lines c = (place : ℕ) × (p : ℕ) × (slice_get events place ≡ Some (told_at p (Submit c))) × ((refusal : Refusal) → Contains lines (line.Refuse (at + place) refusal) → ⊥)
 
 later : (at : ℕ) (e : Event) (es : List Event) (lines : List ReportLine) (c : Command) → IsSubmittedIn (at + 1) es lines c → IsSubmittedIn at (e ∷ es) lines c
 later at e es lines c (place, p, is, unrefused) = (suc place, p, is, λ refusal held. unrefused refusal (subst (λ (k : ℕ). Contains lines (line.Refuse k refusal)) (let same : at + suc place ≡ (at + 1) + place = omega arith in same) held))
@@ -141,11 +145,11 @@ submitted_by_events n at (e ∷ es) old new w (steps ∷ pieces) c none (next, s
     by (submitted_by_events n (at + 1) es next new (after_steps w steps) pieces c (still_none at e old next step none) rest (subst (λ (v : World). Contains v.submitted c) (joined w steps pieces) there))
   where
     -- a refusal of this line was noted by this event, and then its steps are at most going down
-    went_down : (p : ℕ) (r : Refusal) → e ≡ Submit p c → Contains old.lines (line.Refuse at r) ⊎ ((at ≡ at) × (next.lines ≡ old.lines ++ line.Refuse at r ∷ [])) → MayFall p steps
+    went_down : (p : ℕ) (r : Refusal) → e ≡ told_at p (Submit c) → Contains old.lines (line.Refuse at r) ⊎ ((at ≡ at) × (next.lines ≡ old.lines ++ line.Refuse at r ∷ [])) → MayFall p steps
     went_down p r is (inl before) = absurd (let l = none at r before in omega arith)
-    went_down p r is (inr (same, lines)) = subst (λ (x : Event). MayFall (node_of x) steps) is (refused r lines)
+    went_down p r is (inr (same, lines)) = subst (λ (x : Event). MayFall x.node steps) is (refused r lines)
 
-    falls_if : (p : ℕ) (r : Refusal) → e ≡ Submit p c → Contains next.lines (line.Refuse at r) ⊎ (at + 1 ≤ at) → MayFall p steps
+    falls_if : (p : ℕ) (r : Refusal) → e ≡ told_at p (Submit c) → Contains next.lines (line.Refuse at r) ⊎ (at + 1 ≤ at) → MayFall p steps
     falls_if p r is (inl held) = went_down p r is (refused_before_or_now at e old next step at r held)
     falls_if p r is (inr less) = absurd (omega (arith, less))
 

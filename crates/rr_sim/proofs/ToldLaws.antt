@@ -1,6 +1,6 @@
 -- A run that is told line by line tells its report.
 use Rattle.std.proofs.Common.{◌≡◌, ◌⊎◌, inl, inr, ℕ, ◌+◌, ◌<◌, ◌≤◌, List, [], ◌∷◌, ◌++◌, length, Option, None, Some, refl, ap, sym, ◌∙◌, subst, arith}
-use Rattle.std.specs.Prelude.{Bool, true, false, if◌then◌else◌, ◌==◌, slice_get, codes, decimal}
+use Rattle.std.specs.Prelude.{Bool, true, false, if◌then◌else◌, slice_get, codes, decimal}
 use Rattle.std.specs.Option.{option_map_or}
 use Rattle.std.specs.List.{flat_map}
 use Rattle.std.proofs.lemmas.List.{append_assoc, append-nil}
@@ -11,19 +11,19 @@ use Rattle.rr_types.specs.declared.refusal.Refusal.TheVariants as because
 use Rattle.rr_model.specs.Sound.{IsDecidedList}
 use Rattle.rr_node.specs.Runs.{sent_by}
 use Rattle.rr_node.specs.Seats.{Seat, Answer, seat_step, starve, seat_fails, starve_fails}
-use Rattle.rr_node.specs.declared.event.NodeEvent.{NodeEvent}
-use Rattle.rr_types.specs.declared.input.Input.TheVariants as input
-use Rattle.rr_node.specs.declared.event.NodeEvent.TheVariants as node
+use Rattle.rr_types.specs.declared.event.NodeEvent.{NodeEvent}
+use Rattle.rr_types.specs.Inputs.{happens_as, message_on}
 use Rattle.rr_text.specs.declared.event.Event.{Event}
-use Rattle.rr_text.specs.declared.event.Event.TheVariants.{Submit, Hear, Suspect, Tick, Advance, Take, Device, Fail, Mark, Send, Ack, Snap, Crash, Restart}
+use Rattle.rr_text.specs.declared.event.Happening.{Happening}
+use Rattle.rr_text.specs.declared.event.Happening.TheVariants.{At, Fail, Crash}
 use Rattle.rr_text.specs.declared.report.ReportLine.{ReportLine}
 use Rattle.rr_text.specs.Lines.{nodes_line, HasNoLine, IsStop}
 use Rattle.rr_text.specs.Reported.{Reported}
 use Rattle.rr_text.specs.ReportTexts.{report_words, line, decided_lines}
-use Rattle.rr_text.specs.Scheduled.{Scheduled, IsEvent, node_of}
+use Rattle.rr_text.specs.Scheduled.{Scheduled, IsEvent}
 use Rattle.rr_text.specs.ScheduleTexts.{event_line}
 use Rattle.rr_text.proofs.LineReading.{SoFar, so_far_none, so_far_on, so_far_all, so_far_stop}
-use Rattle.rr_sim.specs.Clusters.{Cluster, new_cluster, note_of, with_answer, at_node, fail_at, hear_at, event_step, Steps, LeadsSpelt, IsSpeltBehind}
+use Rattle.rr_sim.specs.Clusters.{Cluster, new_cluster, note_of, with_answer, at_node, fail_at, happens, event_step, Steps, LeadsSpelt, IsSpeltBehind}
 use Rattle.rr_sim.specs.Told.{told, TellsAll, IsReportOn}
 use Rattle.rr_sim.proofs.CleanLaws.{only_one}
 use Rattle.rr_sim.proofs.HeadlineLaws.{is_world_run, agrees}
@@ -39,11 +39,11 @@ behind_lines ls c = record c { lines = ls ++ c.lines }
 answered : (p at : ℕ) (ls : List ReportLine) (c : Cluster) (answer : Answer) → with_answer p at (behind_lines ls c) answer ≡ behind_lines ls (with_answer p at c answer)
 answered p at ls c answer = ap (λ (lines : List ReportLine). record (with_answer p at c answer) { lines = lines }) (append_assoc ls c.lines (note_of p at (length c.wire) answer.0))
 
-seated : (ls : List ReportLine) (c : Cluster) (f g : Seat → Cluster) (o : Option Seat) → ((seat : Seat) → f seat ≡ behind_lines ls (g seat)) → option_map_or f o (behind_lines ls c) ≡ behind_lines ls (option_map_or g o c)
+seated : {X : Type 0} (ls : List ReportLine) (c : Cluster) (f g : X → Cluster) (o : Option X) → ((x : X) → f x ≡ behind_lines ls (g x)) → option_map_or f o (behind_lines ls c) ≡ behind_lines ls (option_map_or g o c)
 seated ls c f g None h = refl
-seated ls c f g (Some seat) h = h seat
+seated ls c f g (Some x) h = h x
 
-at_node_behind : (p at : ℕ) (starved : Bool) (event : NodeEvent) (ls : List ReportLine) (c : Cluster) → at_node p at starved event (behind_lines ls c) ≡ behind_lines ls (at_node p at starved event c)
+at_node_behind : (p at : ℕ) (starved : Bool) (event : NodeEvent Message) (ls : List ReportLine) (c : Cluster) → at_node p at starved event (behind_lines ls c) ≡ behind_lines ls (at_node p at starved event c)
 at_node_behind p at starved event ls c =
     seated ls c (λ seat. with_answer p at (behind_lines ls c) (if starved then starve event seat else seat_step event seat)) (λ seat. with_answer p at c (if starved then starve event seat else seat_step event seat)) (slice_get c.seats p)
     (λ seat. answered p at ls c (if starved then starve event seat else seat_step event seat))
@@ -53,35 +53,18 @@ fail_at_behind p at starved fill ls c =
     seated ls c (λ seat. with_answer p at (behind_lines ls c) (if starved then starve_fails fill seat else seat_fails fill seat)) (λ seat. with_answer p at c (if starved then starve_fails fill seat else seat_fails fill seat)) (slice_get c.seats p)
     (λ seat. answered p at ls c (if starved then starve_fails fill seat else seat_fails fill seat))
 
-either : (ls : List ReportLine) (b : Bool) (x y c : Cluster) → x ≡ behind_lines ls y → (if b then x else behind_lines ls c) ≡ behind_lines ls (if b then y else c)
-either ls true x y c h = h
-either ls false x y c h = refl
-
-heard : (p at : ℕ) (starved : Bool) (ls : List ReportLine) (c : Cluster) (o : Option Message)
-    → option_map_or (λ (m : Message). if m.to == p then at_node p at starved (node.Told (input.Hear m)) (behind_lines ls c) else behind_lines ls c) o (behind_lines ls c)
-    ≡ behind_lines ls (option_map_or (λ (m : Message). if m.to == p then at_node p at starved (node.Told (input.Hear m)) c else c) o c)
-heard p at starved ls c None = refl
-heard p at starved ls c (Some m) = either ls (m.to == p) (at_node p at starved (node.Told (input.Hear m)) (behind_lines ls c)) (at_node p at starved (node.Told (input.Hear m)) c) c (at_node_behind p at starved (node.Told (input.Hear m)) ls c)
-
 crashed_behind : (ls : List ReportLine) (c : Cluster) (f : Seat → List Seat) (o : Option Seat) → option_map_or (λ (seat : Seat). record (behind_lines ls c) { seats = f seat }) o (behind_lines ls c) ≡ behind_lines ls (option_map_or (λ (seat : Seat). record c { seats = f seat }) o c)
 crashed_behind ls c f None = refl
 crashed_behind ls c f (Some seat) = refl
 
+happened : (p at : ℕ) (starved : Bool) (what : Happening) (ls : List ReportLine) (c : Cluster) → happens p at starved what (behind_lines ls c) ≡ behind_lines ls (happens p at starved what c)
+happened p at starved (At event) ls c =
+    seated ls c (λ e. at_node p at starved e (behind_lines ls c)) (λ e. at_node p at starved e c) (happens_as (message_on c.wire p) event) (λ e. at_node_behind p at starved e ls c)
+happened p at starved (Fail fill) ls c = fail_at_behind p at starved fill ls c
+happened p at starved (Crash a b fill) ls c = crashed_behind ls c _ (slice_get c.seats p)
+
 pub stepped : (at : ℕ) (starved : Bool) (e : Event) (ls : List ReportLine) (c : Cluster) → event_step at starved e (behind_lines ls c) ≡ behind_lines ls (event_step at starved e c)
-stepped at starved (Submit p v) ls c = at_node_behind p at starved (node.Told (input.Submit v)) ls c
-stepped at starved (Hear p k) ls c = heard p at starved ls c (slice_get c.wire k)
-stepped at starved (Suspect p set) ls c = at_node_behind p at starved (node.Told (input.Suspect set)) ls c
-stepped at starved (Tick p) ls c = at_node_behind p at starved (node.Told input.Tick) ls c
-stepped at starved (Advance p) ls c = at_node_behind p at starved (node.Told input.Advance) ls c
-stepped at starved (Take p) ls c = at_node_behind p at starved node.Take ls c
-stepped at starved (Device p) ls c = at_node_behind p at starved node.Device ls c
-stepped at starved (Fail p fill) ls c = fail_at_behind p at starved fill ls c
-stepped at starved (Mark p) ls c = at_node_behind p at starved node.Mark ls c
-stepped at starved (Send p) ls c = at_node_behind p at starved node.Send ls c
-stepped at starved (Ack p) ls c = at_node_behind p at starved node.Acknowledge ls c
-stepped at starved (Snap p) ls c = at_node_behind p at starved node.Snap ls c
-stepped at starved (Crash p a b fill) ls c = crashed_behind ls c _ (slice_get c.seats p)
-stepped at starved (Restart p) ls c = at_node_behind p at starved node.Restart ls c
+stepped at starved e ls c = happened e.node at starved e.what ls c
 
 pub steps_behind : (at : ℕ) (e : Event) (ls : List ReportLine) (old new : Cluster) → Steps at e old new → Steps at e (behind_lines ls old) (behind_lines ls new)
 steps_behind at e ls old new (inl h) = inl (ap (behind_lines ls) h ∙ sym (stepped at false e ls old))

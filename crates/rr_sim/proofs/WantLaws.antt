@@ -1,18 +1,18 @@
 -- An event whose line doesn't tell of want of memory was carried out with memory there, if it is no failing device call.
 use Rattle.std.proofs.Common.{◌≡◌, ◌⊎◌, inl, inr, ℕ, Bool, true, false, List, [], ◌∷◌, ◌++◌, length, Option, None, Some, refl, sym, ◌∙◌, ap, subst}
-use Rattle.std.specs.Prelude.{if◌then◌else◌, ◌==◌, slice_get}
+use Rattle.std.specs.Prelude.{if◌then◌else◌, slice_get}
 use Rattle.std.specs.Option.{option_map_or}
 use Rattle.rr_types.specs.declared.message.Message.{Message}
 use Rattle.rr_types.specs.declared.refusal.Refusal.{Refusal}
 use Rattle.rr_types.specs.declared.refusal.Refusal.TheVariants as because
-use Rattle.rr_node.specs.declared.event.NodeEvent.{NodeEvent}
-use Rattle.rr_types.specs.declared.input.Input.TheVariants as input
-use Rattle.rr_node.specs.declared.event.NodeEvent.TheVariants as node
+use Rattle.rr_types.specs.declared.event.NodeEvent.{NodeEvent}
+use Rattle.rr_types.specs.Inputs.{happens_as, message_on}
 use Rattle.rr_node.specs.Seats.{Seat, Answer, seat_step, starve, seat_fails, starve_fails}
 use Rattle.rr_text.specs.declared.event.Event.{Event}
-use Rattle.rr_text.specs.declared.event.Event.TheVariants.{Submit, Hear, Suspect, Tick, Advance, Take, Device, Fail, Mark, Send, Ack, Snap, Crash, Restart}
+use Rattle.rr_text.specs.declared.event.Happening.{Happening}
+use Rattle.rr_text.specs.declared.event.Happening.TheVariants.{At, Fail, Crash}
 use Rattle.rr_text.specs.declared.report.ReportLine.TheVariants as line
-use Rattle.rr_sim.specs.Clusters.{Cluster, note_of, with_answer, at_node, fail_at, hear_at, event_step, Steps, TellsOfWant}
+use Rattle.rr_sim.specs.Clusters.{Cluster, note_of, with_answer, at_node, fail_at, happens, event_step, Steps, TellsOfWant}
 use Rattle.rr_sim.specs.Random.{IsFailing, StepsInMemory}
 use Rattle.rr_sim.proofs.Wanting.{IsWanting, wanting_or_same, failing_or_same}
 
@@ -35,7 +35,7 @@ told_of p at c answer w none = by w.wants
     by (inl e) = none (at, inl (here ∙ ap (λ (r : Refusal). Some (line.Refuse at r)) e))
     by (inr e) = none (at, inr (here ∙ ap (λ (r : Refusal). Some (line.Refuse at r)) e))
 
-node_wants : (p at : ℕ) (event : NodeEvent) (c : Cluster) → TellsOfNoWant c (at_node p at true event c) → at_node p at true event c ≡ at_node p at false event c
+node_wants : (p at : ℕ) (event : NodeEvent Message) (c : Cluster) → TellsOfNoWant c (at_node p at true event c) → at_node p at true event c ≡ at_node p at false event c
 node_wants p at event c none = by (slice_get c.seats p) refl
   where
     step : Bool → Option Seat → Cluster
@@ -48,23 +48,6 @@ node_wants p at event c none = by (slice_get c.seats p) refl
     by : (o : Option Seat) → slice_get c.seats p ≡ o → at_node p at true event c ≡ at_node p at false event c
     by None e = ap (step true) e ∙ sym (ap (step false) e)
     by (Some seat) e = ap (step true) e ∙ same seat e (wanting_or_same event seat) ∙ sym (ap (step false) e)
-
-hear_wants : (p at k : ℕ) (c : Cluster) → TellsOfNoWant c (hear_at p at true k c) → hear_at p at true k c ≡ hear_at p at false k c
-hear_wants p at k c = by (slice_get c.wire k)
-  where
-    heard : Bool → Bool → Message → Cluster
-    heard starved own m = if own then at_node p at starved (node.Told (input.Hear m)) c else c
-
-    this : (own : Bool) (m : Message) → TellsOfNoWant c (heard true own m) → heard true own m ≡ heard false own m
-    this true m none = node_wants p at (node.Told (input.Hear m)) c none
-    this false m none = refl
-
-    step : Bool → Option Message → Cluster
-    step starved o = option_map_or (λ m. heard starved (m.to == p) m) o c
-
-    by : (o : Option Message) → TellsOfNoWant c (step true o) → step true o ≡ step false o
-    by None none = refl
-    by (Some m) none = this (m.to == p) m none
 
 fail_wants : (p at : ℕ) (fill : List ℕ) (c : Cluster) → TellsOfNoWant c (fail_at p at true fill c) → fail_at p at true fill c ≡ fail_at p at false fill c
 fail_wants p at fill c none = by (slice_get c.seats p) refl
@@ -82,21 +65,21 @@ fail_wants p at fill c none = by (slice_get c.seats p) refl
 
 -- ---- the events
 
+some_wants : (p at : ℕ) (o : Option (NodeEvent Message)) (c : Cluster) → TellsOfNoWant c (option_map_or (λ e. at_node p at true e c) o c) → option_map_or (λ e. at_node p at true e c) o c ≡ option_map_or (λ e. at_node p at false e c) o c
+some_wants p at None c none = refl
+some_wants p at (Some event) c none = node_wants p at event c none
+
+what_wants : (p at : ℕ) (what : Happening) (c : Cluster) → TellsOfNoWant c (happens p at true what c) → (happens p at true what c ≡ happens p at false what c) ⊎ ((fill : List ℕ) × (what ≡ Fail fill))
+what_wants p at (At event) c none = inl (some_wants p at (happens_as (message_on c.wire p) event) c none)
+what_wants p at (Fail fill) c none = inr (fill, refl)
+what_wants p at (Crash a b fill) c none = inl refl
+
 event_wants : (at : ℕ) (e : Event) (c : Cluster) → TellsOfNoWant c (event_step at true e c) → StepsInMemory at e c (event_step at true e c)
-event_wants at (Submit p v) c none = inl (node_wants p at (node.Told (input.Submit v)) c none)
-event_wants at (Hear p k) c none = inl (hear_wants p at k c none)
-event_wants at (Suspect p set) c none = inl (node_wants p at (node.Told (input.Suspect set)) c none)
-event_wants at (Tick p) c none = inl (node_wants p at (node.Told input.Tick) c none)
-event_wants at (Advance p) c none = inl (node_wants p at (node.Told input.Advance) c none)
-event_wants at (Take p) c none = inl (node_wants p at node.Take c none)
-event_wants at (Device p) c none = inl (node_wants p at node.Device c none)
-event_wants at (Fail p fill) c none = inr ((p, fill, refl), refl)
-event_wants at (Mark p) c none = inl (node_wants p at node.Mark c none)
-event_wants at (Send p) c none = inl (node_wants p at node.Send c none)
-event_wants at (Ack p) c none = inl (node_wants p at node.Acknowledge c none)
-event_wants at (Snap p) c none = inl (node_wants p at node.Snap c none)
-event_wants at (Crash p a b fill) c none = inl refl
-event_wants at (Restart p) c none = inl (node_wants p at node.Restart c none)
+event_wants at e c none = by (what_wants e.node at e.what c none)
+  where
+    by : (event_step at true e c ≡ event_step at false e c) ⊎ IsFailing e → StepsInMemory at e c (event_step at true e c)
+    by (inl same) = inl same
+    by (inr fails) = inr (fails, refl)
 
 -- of a failing device call its line tells nothing
 pub failing_in_memory : (at : ℕ) (e : Event) (old new : Cluster) → Steps at e old new → IsFailing e → StepsInMemory at e old new
@@ -113,11 +96,11 @@ in_memory at e old new (inr is) none =
 pub with_memory : (at : ℕ) (e : Event) (old new : Cluster) → Steps at e old new → TellsOfNoWant old new → new ≡ event_step at false e old
 with_memory at e old new step none = by (in_memory at e old new step none)
   where
-    failing : (p : ℕ) (fill : List ℕ) → e ≡ Fail p fill → new ≡ event_step at true e old → new ≡ event_step at false e old
-    failing p fill fails is =
-        let so : new ≡ fail_at p at true fill old = is ∙ ap (λ (x : Event). event_step at true x old) fails in
-        so ∙ fail_wants p at fill old (subst (λ (x : Cluster). TellsOfNoWant old x) so none) ∙ sym (ap (λ (x : Event). event_step at false x old) fails)
+    failing : (fill : List ℕ) → e.what ≡ Fail fill → new ≡ event_step at true e old → new ≡ event_step at false e old
+    failing fill fails is =
+        let so : new ≡ fail_at e.node at true fill old = is ∙ ap (λ (x : Happening). happens e.node at true x old) fails in
+        so ∙ fail_wants e.node at fill old (subst (λ (x : Cluster). TellsOfNoWant old x) so none) ∙ sym (ap (λ (x : Happening). happens e.node at false x old) fails)
 
     by : StepsInMemory at e old new → new ≡ event_step at false e old
     by (inl is) = is
-    by (inr ((p, fill, fails), is)) = failing p fill fails is
+    by (inr ((fill, fails), is)) = failing fill fails is

@@ -8,8 +8,9 @@ use Rattle.rr_types.specs.declared.input.Input.{Input}
 use Rattle.rr_model.specs.NodeStep.{input_refusal, refusal_of}
 use Rattle.rr_journal.specs.Calls.{Call, Read, Write, Sync, after_call, after_starved, after_failing}
 use Rattle.rr_journal.specs.Openings.{Phase, After, Goes, Opens, Stops, due_call, after_opening_call}
-use Rattle.rr_node.specs.declared.event.NodeEvent.{NodeEvent}
-use Rattle.rr_node.specs.declared.event.NodeEvent.TheVariants as node
+use Rattle.rr_types.specs.declared.event.NodeEvent.{NodeEvent}
+use Rattle.rr_types.specs.declared.message.Message.{Message}
+use Rattle.rr_types.specs.declared.event.NodeEvent.TheVariants as node
 use Rattle.rr_node.specs.Seats.{Flush, Resting, Writing, Flushed, Switching, Doing, Stopped, Faulted, Opening, Serving, Journaled, Seat, Answer, called, read_by, opens_on, told, by_doing, seat_step, fall, grows, starve, starve_doing, starve_input, starve_serving, starve_marking, starve_beginning, starve_awaiting, starve_opening, starve_end, starve_call, starve_flush, fail_flush, fail_doing, seat_fails, starve_fails, after_failing_starved}
 
 -- the answer is a refusal for want of memory, or by the device
@@ -19,7 +20,7 @@ pub record IsWanting (answer : Answer) : Type 0 where
   pub is : answer.0 ≡ Err refusal
 
 -- an answer is such a refusal, or that where memory is there
-abbrev pub WantsOrSame : NodeEvent → Seat → Answer → Type 0
+abbrev pub WantsOrSame : NodeEvent Message → Seat → Answer → Type 0
 WantsOrSame event seat answer = IsWanting answer ⊎ (answer ≡ seat_step event seat)
 
 no_memory : (answer : Answer) → answer.0 ≡ Err because.OutOfMemory → IsWanting answer
@@ -57,7 +58,7 @@ wanting_opening phase seat opens Sync due =
     (ap (λ (call : Call). opens_on (called (after_call call seat.areas) seat) (after_opening_call seat.nodes seat.node (read_by call seat.areas) phase)) (sym due)
     ∙ ap (by_doing node.Device seat) (sym opens))
 
-wanting_awaiting : (phase : Phase) (event : NodeEvent) (seat : Seat) → seat.doing ≡ Opening phase → WantsOrSame event seat (starve_awaiting phase event seat)
+wanting_awaiting : (phase : Phase) (event : NodeEvent Message) (seat : Seat) → seat.doing ≡ Opening phase → WantsOrSame event seat (starve_awaiting phase event seat)
 wanting_awaiting phase node.Device seat opens = wanting_opening phase seat opens (due_call phase) refl
 wanting_awaiting phase (node.Told input) seat opens = inr refl
 wanting_awaiting phase node.Take seat opens = inr refl
@@ -67,7 +68,7 @@ wanting_awaiting phase node.Acknowledge seat opens = inr refl
 wanting_awaiting phase node.Snap seat opens = inr refl
 wanting_awaiting phase node.Restart seat opens = inr refl
 
-wanting_beginning : (flush : Flush) (event : NodeEvent) (seat : Seat) → WantsOrSame event seat (starve_beginning flush event seat)
+wanting_beginning : (flush : Flush) (event : NodeEvent Message) (seat : Seat) → WantsOrSame event seat (starve_beginning flush event seat)
 wanting_beginning Resting event seat = inl (no_memory _ refl)
 wanting_beginning (Writing calls) event seat = inr refl
 wanting_beginning Flushed event seat = inr refl
@@ -79,19 +80,19 @@ wanting_marking (Writing calls) seat = inr refl
 wanting_marking Flushed seat = inl (no_memory _ refl)
 wanting_marking (Switching calls) seat = inr refl
 
-refused_for : (input : Input) (s : NodeState) (why : Refusal) → input_refusal input s ≡ Some why → refusal_of input s ≡ Some why
+refused_for : (input : Input Message) (s : NodeState) (why : Refusal) → input_refusal input s ≡ Some why → refusal_of input s ≡ Some why
 unfolding refusal_of
 refused_for input s why e = rw e refl
 
 -- an input that is refused for what it is is refused for that where memory is wanting too
-wanting_input : (input : Input) (event : NodeEvent) (s : NodeState) (journal : Journaled) (flush : Flush) (seat : Seat) → seat_step event seat ≡ told input s journal flush seat → WantsOrSame event seat (starve_input input s seat)
+wanting_input : (input : Input Message) (event : NodeEvent Message) (s : NodeState) (journal : Journaled) (flush : Flush) (seat : Seat) → seat_step event seat ≡ told input s journal flush seat → WantsOrSame event seat (starve_input input s seat)
 wanting_input input event s journal flush seat steps = by (input_refusal input s) refl
   where
     by : (o : Option Refusal) → input_refusal input s ≡ o → WantsOrSame event seat (starve_input input s seat)
     by None e = inl (no_memory _ (rw e refl))
     by (Some why) e = inr (sym (steps ∙ rw (refused_for input s why e, e) refl))
 
-wanting_serving : (s : NodeState) (journal : Journaled) (flush : Flush) (event : NodeEvent) (seat : Seat) → seat.doing ≡ Serving s journal flush → WantsOrSame event seat (starve_serving s flush event seat)
+wanting_serving : (s : NodeState) (journal : Journaled) (flush : Flush) (event : NodeEvent Message) (seat : Seat) → seat.doing ≡ Serving s journal flush → WantsOrSame event seat (starve_serving s flush event seat)
 wanting_serving s journal flush (node.Told input) seat does = wanting_input input (node.Told input) s journal flush seat (ap (by_doing (node.Told input) seat) does)
 wanting_serving s journal flush node.Take seat does = wanting_beginning flush node.Take seat
 wanting_serving s journal flush node.Device seat does = wanting_flush flush seat
@@ -101,14 +102,14 @@ wanting_serving s journal flush node.Acknowledge seat does = inr refl
 wanting_serving s journal flush node.Snap seat does = wanting_beginning flush node.Snap seat
 wanting_serving s journal flush node.Restart seat does = inr refl
 
-wanting_doing : (doing : Doing) (event : NodeEvent) (seat : Seat) → seat.doing ≡ doing → WantsOrSame event seat (starve_doing doing event seat)
+wanting_doing : (doing : Doing) (event : NodeEvent Message) (seat : Seat) → seat.doing ≡ doing → WantsOrSame event seat (starve_doing doing event seat)
 wanting_doing Stopped event seat does = inr refl
 wanting_doing Faulted event seat does = inr refl
 wanting_doing (Opening phase) event seat does = wanting_awaiting phase event seat does
 wanting_doing (Serving s journal flush) event seat does = wanting_serving s journal flush event seat does
 
 -- each answer where memory is wanting is such a refusal, or the answer where it is there
-pub wanting_or_same : (event : NodeEvent) (seat : Seat) → IsWanting (starve event seat) ⊎ (starve event seat ≡ seat_step event seat)
+pub wanting_or_same : (event : NodeEvent Message) (seat : Seat) → IsWanting (starve event seat) ⊎ (starve event seat ≡ seat_step event seat)
 wanting_or_same event seat = wanting_doing seat.doing event seat refl
 
 -- a failing device call is refused by the device, whatever it leaves; where none is due nothing differs

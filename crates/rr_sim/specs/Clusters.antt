@@ -1,5 +1,5 @@
 -- A cluster of nodes with their disks, and what each event of a schedule does to it.
-use Rattle.std.specs.Prelude.{◌≡◌, ◌⊎◌, ℕ, ◌+◌, Bool, true, false, ◌==◌, nat_lt, if◌then◌else◌, List, [], ◌∷◌, ◌++◌, length, map, slice_get, slice_set, Option, None, Some, Result, Ok, Err}
+use Rattle.std.specs.Prelude.{◌≡◌, ◌⊎◌, ℕ, ◌+◌, Bool, true, false, nat_lt, if◌then◌else◌, List, [], ◌∷◌, ◌++◌, length, map, slice_get, slice_set, Option, None, Some, Result, Ok, Err}
 use Rattle.std.specs.Option.{option_map_or}
 use Rattle.std.specs.List.{range_with_len}
 use Rattle.rr_types.specs.declared.message.Message.{Message}
@@ -7,20 +7,20 @@ use Rattle.rr_types.specs.declared.refusal.Refusal.{Refusal}
 use Rattle.rr_types.specs.declared.refusal.Refusal.TheVariants as because
 use Rattle.rr_types.specs.Registry.{Bindings, binding_of}
 use Rattle.rr_model.specs.Sound.{IsDecidedList}
-use Rattle.rr_node.specs.declared.event.NodeEvent.{NodeEvent}
-use Rattle.rr_types.specs.declared.input.Input.TheVariants as input
-use Rattle.rr_node.specs.declared.event.NodeEvent.TheVariants as node
+use Rattle.rr_types.specs.declared.event.NodeEvent.{NodeEvent}
+use Rattle.rr_types.specs.declared.event.NodeEvent.TheVariants.{Told}
+use Rattle.rr_types.specs.Inputs.{HearsNothing, happens_as, message_on}
 use Rattle.rr_node.specs.declared.event.Outcome.{Outcome}
 use Rattle.rr_node.specs.declared.event.Outcome.TheVariants.{Quiet, Left, Replied, Opened}
 use Rattle.rr_node.specs.Runs.{sent_by, IsSpelt}
 use Rattle.rr_node.specs.Seats.{Seat, new_seat, Answer, seat_step, starve, seat_fails, starve_fails, crashed}
 use Rattle.rr_text.specs.declared.event.Event.{Event}
-use Rattle.rr_text.specs.declared.event.Event.TheVariants.{Submit, Hear, Suspect, Tick, Advance, Take, Device, Fail, Mark, Send, Ack, Snap, Crash, Restart}
+use Rattle.rr_text.specs.declared.event.Happening.{Happening}
+use Rattle.rr_text.specs.declared.event.Happening.TheVariants.{At, Fail, Crash}
 use Rattle.rr_types.specs.declared.binding.Binding.{Binding}
 use Rattle.rr_text.specs.declared.report.ReportLine.{ReportLine}
 use Rattle.rr_text.specs.declared.report.ReportLine.TheVariants as line
 use Rattle.rr_text.specs.Reported.{Reported}
-use Rattle.rr_text.specs.Scheduled.{node_of}
 
 -- the nodes with their disks, by their numbers; all messages ever sent; the report so far
 pub record Cluster : Type 0 where
@@ -53,7 +53,7 @@ with_answer p at c answer = record {
 }
 
 -- an event at node p; starved says that memory was wanting for it
-abbrev pub at_node : ℕ → ℕ → Bool → NodeEvent → Cluster → Cluster
+abbrev pub at_node : ℕ → ℕ → Bool → NodeEvent Message → Cluster → Cluster
 at_node p at starved event c = option_map_or (λ seat. with_answer p at c (if starved then starve event seat else seat_step event seat)) (slice_get c.seats p) c
 
 -- the next device call of node p, failing
@@ -62,49 +62,26 @@ fail_at p at starved fill c =
     option_map_or (λ seat. with_answer p at c (if starved then starve_fails fill seat else seat_fails fill seat))
     (slice_get c.seats p) c
 
--- hearing a message of the wire; one that isn't there or is for another node does nothing
-abbrev pub hear_at : ℕ → ℕ → Bool → ℕ → Cluster → Cluster
-hear_at p at starved k c = option_map_or (λ m. if m.to == p then at_node p at starved (node.Told (input.Hear m)) c else c) (slice_get c.wire k) c
-
 -- a crash of node p
 abbrev pub crash_at : ℕ → ℕ → ℕ → List ℕ → Cluster → Cluster
 crash_at p cut_first cut_second fill c =
     option_map_or (λ seat. record c { seats = slice_set c.seats p (crashed cut_first cut_second fill seat) })
     (slice_get c.seats p) c
 
+-- what happens at node p on this line does this to a cluster; a message that isn't on the wire or is for another node does nothing
+abbrev pub happens : ℕ → ℕ → Bool → Happening → Cluster → Cluster
+happens p at starved (At event) c = option_map_or (λ e. at_node p at starved e c) (happens_as (message_on c.wire p) event) c
+happens p at starved (Fail fill) c = fail_at p at starved fill c
+happens p at starved (Crash a b fill) c = crash_at p a b fill c
+
 -- what the event of a line does to a cluster
 abbrev pub event_step : ℕ → Bool → Event → Cluster → Cluster
-event_step at starved (Submit p v) c = at_node p at starved (node.Told (input.Submit v)) c
-event_step at starved (Hear p k) c = hear_at p at starved k c
-event_step at starved (Suspect p set) c = at_node p at starved (node.Told (input.Suspect set)) c
-event_step at starved (Tick p) c = at_node p at starved (node.Told input.Tick) c
-event_step at starved (Advance p) c = at_node p at starved (node.Told input.Advance) c
-event_step at starved (Take p) c = at_node p at starved node.Take c
-event_step at starved (Device p) c = at_node p at starved node.Device c
-event_step at starved (Fail p fill) c = fail_at p at starved fill c
-event_step at starved (Mark p) c = at_node p at starved node.Mark c
-event_step at starved (Send p) c = at_node p at starved node.Send c
-event_step at starved (Ack p) c = at_node p at starved node.Acknowledge c
-event_step at starved (Snap p) c = at_node p at starved node.Snap c
-event_step at starved (Crash p a b fill) c = crash_at p a b fill c
-event_step at starved (Restart p) c = at_node p at starved node.Restart c
+event_step at starved e c = happens e.node at starved e.what c
 
--- an event is the node's alone: it is no hearing of a message, no crash and no failing device call
-abbrev pub IsOfNode : Event → Type 0
-IsOfNode (Submit p v) = Unit {0}
-IsOfNode (Hear p k) = ⊥
-IsOfNode (Suspect p set) = Unit {0}
-IsOfNode (Tick p) = Unit {0}
-IsOfNode (Advance p) = Unit {0}
-IsOfNode (Take p) = Unit {0}
-IsOfNode (Device p) = Unit {0}
-IsOfNode (Fail p fill) = ⊥
-IsOfNode (Mark p) = Unit {0}
-IsOfNode (Send p) = Unit {0}
-IsOfNode (Ack p) = Unit {0}
-IsOfNode (Snap p) = Unit {0}
-IsOfNode (Crash p a b fill) = ⊥
-IsOfNode (Restart p) = Unit {0}
+-- it is no message that is heard
+abbrev pub IsUnheard : NodeEvent ℕ → Type 0
+IsUnheard (Told input) = HearsNothing input
+IsUnheard event = Unit {0}
 
 -- the fact holds where memory was there, or where it was wanting
 abbrev pub IsEither : (Bool → Type 0) → Type 0
@@ -125,7 +102,7 @@ IsSpeltAt p c = (seat : Seat) → slice_get c.seats p ≡ Some seat → IsSpelt 
 
 -- that holds of an event's node behind it, or nothing has changed
 abbrev pub IsSpeltBehind : Event → Cluster → Cluster → Type 0
-IsSpeltBehind event old new = (new ≡ old) ⊎ IsSpeltAt (node_of event) new
+IsSpeltBehind event old new = (new ≡ old) ⊎ IsSpeltAt event.node new
 
 -- the events lead from one cluster to another, and that holds behind each
 abbrev pub LeadsSpelt : ℕ → List Event → Cluster → Cluster → Type 0
@@ -153,4 +130,4 @@ IsOnlyOneIfClean n events report = IsClean report →
 -- the line of the first of these events whose node isn't there among n nodes
 abbrev pub first_fault : ℕ → ℕ → List Event → Option ℕ
 first_fault n at [] = None
-first_fault n at (e ∷ es) = if nat_lt (node_of e) n then first_fault n (at + 1) es else Some at
+first_fault n at (e ∷ es) = if nat_lt e.node n then first_fault n (at + 1) es else Some at

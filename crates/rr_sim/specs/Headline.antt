@@ -1,5 +1,6 @@
 -- A schedule run is a run of the world, and what its report tells agrees with one list of commands.
-use Rattle.std.specs.Prelude.{◌≡◌, ◌⊎◌, ℕ, ◌+◌, ◌≤◌, IsTrue, List, [], ◌∷◌, ◌++◌, length, map, take, slice_get, Some}
+use Rattle.std.specs.Prelude.{◌≡◌, ℕ, ◌+◌, ◌≤◌, IsTrue, List, [], ◌∷◌, ◌++◌, length, map, take, slice_get, Some}
+use Rattle.std.specs.Option.{option_map_or}
 use Rattle.std.specs.List.{Contains, flat_map}
 use Rattle.rr_types.specs.declared.command.Command.{Command}
 use Rattle.rr_types.specs.declared.command.RequestNo.{RequestNo}
@@ -13,18 +14,19 @@ use Rattle.rr_model.specs.NodeState.{decided_prefix}
 use Rattle.rr_model.specs.Sound.{IsDecidedList, IsSound}
 use Rattle.rr_model.specs.World as world
 use Rattle.rr_model.specs.World.{World, Step, Told, Sent, Acknowledged, empty_world, IsRun, end_of}
-use Rattle.rr_types.specs.declared.input.Input.TheVariants as input
-use Rattle.rr_node.specs.declared.event.NodeEvent.TheVariants as node
+use Rattle.rr_types.specs.declared.input.Input.TheVariants.{Submit}
+use Rattle.rr_types.specs.Inputs.{happens_as, message_on}
 use Rattle.rr_node.specs.Runs.{MayBe, MayFall}
 use Rattle.rr_node.specs.Seats.{Doing, Stopped, Faulted, Opening, Serving, Seat}
 use Rattle.rr_node.specs.Worlds.{InStep}
 use Rattle.rr_text.specs.declared.event.Event.{Event}
-use Rattle.rr_text.specs.declared.event.Event.TheVariants.{Submit, Hear, Suspect, Tick, Advance, Take, Device, Fail, Mark, Send, Ack, Snap, Crash, Restart}
+use Rattle.rr_text.specs.declared.event.Happening.{Happening}
+use Rattle.rr_text.specs.declared.event.Happening.TheVariants.{At, Fail, Crash}
+use Rattle.rr_text.specs.Events.{told_at}
 use Rattle.rr_types.specs.declared.binding.Binding.{Binding}
 use Rattle.rr_text.specs.declared.report.ReportLine.{ReportLine}
 use Rattle.rr_text.specs.declared.report.ReportLine.TheVariants as line
 use Rattle.rr_text.specs.Reported.{Reported}
-use Rattle.rr_text.specs.Scheduled.{node_of}
 use Rattle.rr_sim.specs.Clusters.{Cluster, new_cluster, Steps, Leads, shown}
 
 -- the registry that a report shows by its bound names
@@ -42,26 +44,19 @@ told_by_line (line.Refuse at e) = []
 abbrev pub told_in : List ReportLine → List Told
 told_in lines = flat_map told_by_line lines
 
+-- the steps of the world that this at node p may be over this wire
+abbrev pub AreStepsAt : List Message → ℕ → Happening → List Step → Type 0
+AreStepsAt wire p (At event) steps = option_map_or (λ e. MayBe p e steps) (happens_as (message_on wire p) event) (steps ≡ [])
+AreStepsAt wire p (Fail fill) steps = MayFall p steps
+AreStepsAt wire p (Crash a b fill) steps = MayFall p steps
+
 -- the steps of the world that an event over this wire may be, all at its node
 abbrev pub AreStepsOf : List Message → Event → List Step → Type 0
-AreStepsOf wire (Submit p c) steps = MayBe p (node.Told (input.Submit c)) steps
-AreStepsOf wire (Hear p k) steps = (steps ≡ []) ⊎ ((m : Message) × (slice_get wire k ≡ Some m) × MayBe p (node.Told (input.Hear m)) steps)
-AreStepsOf wire (Suspect p set) steps = MayBe p (node.Told (input.Suspect set)) steps
-AreStepsOf wire (Tick p) steps = MayBe p (node.Told input.Tick) steps
-AreStepsOf wire (Advance p) steps = MayBe p (node.Told input.Advance) steps
-AreStepsOf wire (Take p) steps = MayBe p node.Take steps
-AreStepsOf wire (Device p) steps = MayBe p node.Device steps
-AreStepsOf wire (Fail p fill) steps = MayFall p steps
-AreStepsOf wire (Mark p) steps = MayBe p node.Mark steps
-AreStepsOf wire (Send p) steps = MayBe p node.Send steps
-AreStepsOf wire (Ack p) steps = MayBe p node.Acknowledge steps
-AreStepsOf wire (Snap p) steps = MayBe p node.Snap steps
-AreStepsOf wire (Crash p a b fill) steps = MayFall p steps
-AreStepsOf wire (Restart p) steps = MayBe p node.Restart steps
+AreStepsOf wire e steps = AreStepsAt wire e.node e.what steps
 
 -- where the report tells that the event of this line was refused, the world has nothing of it, but that its node may go down
 abbrev pub IsNothingWhereRefused : ℕ → Event → Cluster → Cluster → List Step → Type 0
-IsNothingWhereRefused at e old new steps = (refusal : Refusal) → new.lines ≡ old.lines ++ line.Refuse at refusal ∷ [] → MayFall (node_of e) steps
+IsNothingWhereRefused at e old new steps = (refusal : Refusal) → new.lines ≡ old.lines ++ line.Refuse at refusal ∷ [] → MayFall e.node steps
 
 -- a cluster of n nodes and the world are alike: each node with its disk is in step with what the world has of it,
 -- both have the same messages on the wire, and the report tells what was told
@@ -110,7 +105,7 @@ pub record IsRunOfTheWorld (n : ℕ) (events : List Event) (report : Reported) :
 
 -- one of the events submits the command, and no line refuses it; the first event stands on line 2
 abbrev pub IsSubmitted : List Event → List ReportLine → Command → Type 0
-IsSubmitted events lines c = (place : ℕ) × (p : ℕ) × (slice_get events place ≡ Some (Submit p c)) ×
+IsSubmitted events lines c = (place : ℕ) × (p : ℕ) × (slice_get events place ≡ Some (told_at p (Submit c))) ×
     ((refusal : Refusal) → Contains lines (line.Refuse (2 + place) refusal) → ⊥)
 
 -- what a report tells agrees with the one list of commands that it ends with

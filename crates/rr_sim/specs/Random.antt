@@ -7,9 +7,13 @@ use Rattle.rand_pcg.specs.Lcg.{Lcg}
 use Rattle.rand_pcg.specs.Pcg.{pcg32, pcg32_of_seed}
 use Rattle.rr_types.specs.declared.command.Command.{Command}
 use Rattle.rr_types.specs.declared.command.Op.TheVariants.{Claim}
+use Rattle.rr_types.specs.declared.event.NodeEvent.TheVariants.{Take, Device, Mark, Send, Acknowledge, Snap, Restart}
+use Rattle.rr_types.specs.declared.input.Input.TheVariants.{Submit, Hear, Suspect, Tick, Advance}
 use Rattle.rr_types.specs.declared.message.Message.{Message}
 use Rattle.rr_text.specs.declared.event.Event.{Event}
-use Rattle.rr_text.specs.declared.event.Event.TheVariants.{Submit, Hear, Suspect, Tick, Advance, Take, Device, Fail, Mark, Send, Ack, Snap, Crash, Restart}
+use Rattle.rr_text.specs.declared.event.Happening.{Happening}
+use Rattle.rr_text.specs.declared.event.Happening.TheVariants.{Fail, Crash}
+use Rattle.rr_text.specs.Events.{event_of, told_at}
 use Rattle.rr_text.specs.Scheduled.{Scheduled, IsEvent}
 use Rattle.rr_sim.specs.Clusters.{Cluster, new_cluster, event_step, after_events}
 
@@ -31,28 +35,29 @@ claim_of b = record { request = record { client = b % 4; seq = b / 4 % 8 }; op =
 
 -- a message of the wire is heard by its addressee, where that is one of the nodes; on an empty wire node p hears message 0
 abbrev pub hearing : ℕ → List Message → ℕ → ℕ → Event
-hearing n [] p b = Hear p 0
+hearing n [] p b = told_at p (Hear 0)
 hearing n (m ∷ ms) p b =
     let k = b % length (m ∷ ms) in
-    Hear (option_map_or (λ (sent : Message). if nat_lt sent.to n then sent.to else p) (slice_get (m ∷ ms) k) p) k
+    told_at (option_map_or (λ (sent : Message). if nat_lt sent.to n then sent.to else p) (slice_get (m ∷ ms) k) p) (Hear k)
 
 -- the event of a kind from 0 to 31 at node p of n, by a word, where these messages are on the wire
 abbrev pub event_of_kind : ℕ → List Message → ℕ → ℕ → ℕ → Event
 event_of_kind n wire p kind b =
-    if kind == 0 then Submit p (claim_of b)
+    let this : Happening → Event = λ what. record { node = p; what = what } in
+    if kind == 0 then told_at p (Submit (claim_of b))
     else (if nat_lt kind 8 then hearing n wire p b
-    else (if kind == 8 then Suspect p (b % 2 ^ n)
-    else (if kind == 9 then Tick p
-    else (if kind == 10 then Advance p
-    else (if nat_lt kind 13 then Take p
-    else (if nat_lt kind 21 then Device p
-    else (if nat_lt kind 23 then Mark p
-    else (if nat_lt kind 27 then Send p
-    else (if kind == 27 then Ack p
-    else (if kind == 28 then Snap p
-    else (if kind == 29 then Fail p (b % 256 ∷ [])
-    else (if kind == 30 then Crash p (b / 256 % 1024) (b / 256 % 1024) (b % 256 ∷ [])
-    else Restart p))))))))))))
+    else (if kind == 8 then told_at p (Suspect (b % 2 ^ n))
+    else (if kind == 9 then told_at p Tick
+    else (if kind == 10 then told_at p Advance
+    else (if nat_lt kind 13 then event_of p Take
+    else (if nat_lt kind 21 then event_of p Device
+    else (if nat_lt kind 23 then event_of p Mark
+    else (if nat_lt kind 27 then event_of p Send
+    else (if kind == 27 then event_of p Acknowledge
+    else (if kind == 28 then event_of p Snap
+    else (if kind == 29 then this (Fail (b % 256 ∷ []))
+    else (if kind == 30 then this (Crash (b / 256 % 1024) (b / 256 % 1024) (b % 256 ∷ []))
+    else event_of p Restart))))))))))))
 
 -- the event that two words give: the first says the node and the kind, the second the rest
 abbrev pub event_of_words : ℕ → List Message → ℕ → ℕ → Event
@@ -64,7 +69,7 @@ drawn n wire g = event_of_words n wire (word g) (word (behind g))
 
 -- node p opens its disk, which is formatted
 abbrev pub opening_of : ℕ → List Event
-opening_of p = Restart p ∷ replicate 9 (Device p)
+opening_of p = event_of p Restart ∷ replicate 9 (event_of p Device)
 
 -- each of the n nodes opens its disk
 abbrev pub openings : ℕ → List Event
@@ -72,7 +77,7 @@ openings n = flat_map opening_of (range_with_len 0 n)
 
 -- the event is a failing device call
 abbrev pub IsFailing : Event → Type 0
-IsFailing e = (p : ℕ) × (fill : List ℕ) × (e ≡ Fail p fill)
+IsFailing e = (fill : List ℕ) × (e.what ≡ Fail fill)
 
 -- the cluster after an event of a line as it is where memory is there. A failing write leaves its fill, or where memory is
 -- wanting for it what there is of its range loose; the node answers the same, so after a failing device call it may be either

@@ -1,21 +1,21 @@
 //! A cluster of nodes with their disks: what each event of a schedule does to it.
 
-ghost use Rattle.std.specs.Prelude.{◌≡◌, ◌≢◌, ◌⊎◌, ◌↔◌, ◌++◌, ℕ, Bool, [], length, slice_get, option_to_list, None, Some, false, IsTrue, IfSome, MatchOption, Ok, Err, OnOk, IfOk};
-ghost use Rattle.rr_sim.specs.Clusters as clusters;
-ghost use Rattle.rr_sim.specs.Clusters.{shown, note_of, new_cluster, at_node, fail_at, hear_at, crash_at, event_step, IsOfNode, IsEither, Steps, TellsOfWant, IsSpeltAt, IsSpeltBehind};
-ghost use Rattle.rr_text.specs.Scheduled.{node_of};
+ghost use Rattle.std.specs.Prelude.{◌≡◌, ◌≢◌, ◌↔◌, ◌++◌, ℕ, Option, [], length, slice_get, option_to_list, None, Some, false, IsTrue, IfSome, MatchOption, Ok, Err, OnOk, IfOk};
+ghost use Rattle.rr_sim.specs.Clusters.{shown, note_of, new_cluster, at_node, fail_at, crash_at, event_step, IsUnheard, IsEither, Steps, TellsOfWant, IsSpeltAt, IsSpeltBehind};
+ghost use Rattle.rr_text.specs.Events.{event_of, told_at};
 ghost use Rattle.rr_sim.specs.Random.{IsFailing, StepsInMemory};
-ghost use Rattle.rr_node.specs.declared.event.NodeEvent.{NodeEvent};
+ghost use Rattle.rr_types.specs.declared.event.NodeEvent.{NodeEvent};
+ghost use Rattle.rr_types.specs.declared.message.Message.{Message};
+ghost use Rattle.rr_types.specs.Inputs.{happens_as};
 ghost use Rattle.rr_node.specs.Runs.{sent_by};
 ghost use Rattle.rr_sim.specs.Told.{told};
 
-use crate::simulator::node_of;
 use rr_disk::MemDisk;
-use rr_node::{Node, NodeEvent, Outcome};
+use rr_node::{Node, Outcome};
 use rr_registry::binding_of;
 use rr_text::text_report::push_report_lines;
-use rr_text::{BoundNames, Event, ReportLine};
-use rr_types::{Input, Message, NodeId, Nodes, Refusal};
+use rr_text::{BoundNames, Event, Happening, ReportLine};
+use rr_types::{Input, Message, NodeEvent, NodeId, Nodes, Refusal};
 use std::alloc::{AllocError, Global};
 use std::marker::Model;
 
@@ -100,25 +100,21 @@ fn push_some<T: Drop>(list: &mut Vec<T>, item: Option<T>) -> Result<(), AllocErr
     Ok(())
 }
 
-/// What happens at the node by an event that is the node's alone. This is a function of its own, so that the
-/// caller has room for one event of a node and not for each kind.
-fn node_event(event: &Event) -> NodeEvent
-    requires { IsOfNode event.now }
-    ensures { (at : ℕ) (starved : Bool) (c : clusters.Cluster) → event_step at starved event.now c ≡ at_node (node_of event.now) at starved result c }
+/// The event at the node itself, which is no message. This is a function of its own, so that the caller has room for one
+/// event of a node and not for each kind.
+fn node_event(event: &NodeEvent<u32>) -> NodeEvent<Message>
+    requires { IsUnheard event.now }
+    ensures { (name : ℕ → Option Message) → happens_as name event.now ≡ Some result }
 {
     match event {
-        Event::Submit { command, .. } => NodeEvent::Told(Input::Submit(*command)),
-        Event::Suspect { set, .. } => NodeEvent::Told(Input::Suspect(*set)),
-        Event::Tick { .. } => NodeEvent::Told(Input::Tick),
-        Event::Advance { .. } => NodeEvent::Told(Input::Advance),
-        Event::Take { .. } => NodeEvent::Take,
-        Event::Device { .. } => NodeEvent::Device,
-        Event::Mark { .. } => NodeEvent::Mark,
-        Event::Send { .. } => NodeEvent::Send,
-        Event::Ack { .. } => NodeEvent::Acknowledge,
-        Event::Snap { .. } => NodeEvent::Snap,
-        Event::Restart { .. } => NodeEvent::Restart,
-        Event::Hear { .. } | Event::Crash { .. } | Event::Fail { .. } => unreachable!(),
+        NodeEvent::Told(input) => NodeEvent::Told(input.unheard()),
+        NodeEvent::Take => NodeEvent::Take,
+        NodeEvent::Device => NodeEvent::Device,
+        NodeEvent::Mark => NodeEvent::Mark,
+        NodeEvent::Send => NodeEvent::Send,
+        NodeEvent::Acknowledge => NodeEvent::Acknowledge,
+        NodeEvent::Snap => NodeEvent::Snap,
+        NodeEvent::Restart => NodeEvent::Restart,
     }
 }
 
@@ -126,7 +122,7 @@ fn node_event(event: &Event) -> NodeEvent
 fn is_failing(event: &Event) -> bool
     ensures { IsTrue result ↔ IsFailing event.now }
 {
-    matches!(event, Event::Fail { .. })
+    matches!(event.what, Happening::Fail(_))
 }
 
 impl Cluster {
@@ -238,7 +234,7 @@ impl Cluster {
         alloc: Global,
         node: NodeId,
         line: u64,
-        event: &NodeEvent,
+        event: &NodeEvent<Message>,
     ) -> Result<(), AllocError>
         ensures ok { OnOk result
             (IsEither (λ starved. self.new ≡ at_node node line starved event.now self.old)) }
@@ -332,8 +328,8 @@ impl Cluster {
         number: u32,
     ) -> Result<(), AllocError>
         ensures ok { OnOk result
-            (IsEither (λ starved. self.new ≡ hear_at node line starved number self.old)) }
-        ensures spelt { OnOk result ((self.new ≡ self.old) ⊎ IsSpeltAt node self.new) }
+            (Steps line (told_at node (Input.Hear number)) self.old self.new) }
+        ensures spelt { OnOk result (IsSpeltBehind (told_at node (Input.Hear number)) self.old self.new) }
     {
         match self.wire.get(number as usize) {
             Some(message) if message.to == node => match self.refusal_at(node) {
@@ -371,50 +367,53 @@ impl Cluster {
         ensures ok { OnOk result (Steps line event.now self.old self.new) }
         ensures spelt { OnOk result (IsSpeltBehind event.now self.old self.new) }
     {
-        match event {
-            Event::Hear { node, message } => self.hear_at(alloc, *node, line, *message),
-            Event::Crash {
-                node,
-                cut_0,
-                cut_1,
-                fill,
-            } => {
-                self.crash_at(alloc, *node, *cut_0, *cut_1, fill.as_bytes());
+        let node = event.node;
+        match &event.what {
+            Happening::At(NodeEvent::Told(Input::Hear(number))) => {
+                self.hear_at(alloc, node, line, *number)
+            }
+            Happening::At(event) => self.take_event(alloc, node, line, event),
+            Happening::Fail(fill) => self.fail_at(alloc, node, line, fill.as_bytes()),
+            Happening::Crash { cut_0, cut_1, fill } => {
+                self.crash_at(alloc, node, *cut_0, *cut_1, fill.as_bytes());
                 Ok(())
             }
-            Event::Fail { node, fill } => self.fail_at(alloc, *node, line, fill.as_bytes()),
-            _ => self.take_event(alloc, line, event),
         }
     }
 
-    /// What an event does that is the node's alone.
-    fn take_event(&mut self, alloc: Global, line: u64, event: &Event) -> Result<(), AllocError>
-        requires { IsOfNode event.now }
-        ensures ok { OnOk result (Steps line event.now self.old self.new) }
-        ensures spelt { OnOk result (IsSpeltBehind event.now self.old self.new) }
+    /// What an event of a node does that is no message.
+    fn take_event(
+        &mut self,
+        alloc: Global,
+        node: NodeId,
+        line: u64,
+        event: &NodeEvent<u32>,
+    ) -> Result<(), AllocError>
+        requires { IsUnheard event.now }
+        ensures ok { OnOk result (Steps line (event_of node event.now) self.old self.new) }
+        ensures spelt { OnOk result (IsSpeltBehind (event_of node event.now) self.old self.new) }
     {
-        match self.refusal_of(event) {
+        match self.refusal_of(node, event) {
             Some(refusal) => self.refuse(line, refusal),
-            None => self.at_node(alloc, node_of(event), line, &node_event(event)),
+            None => self.at_node(alloc, node, line, &node_event(event)),
         }
     }
 
     /// The refusal of an event that wants its node up, where the node isn't. It moves nothing.
-    fn refusal_of(&self, event: &Event) -> Option<Refusal>
-        requires { IsOfNode event.now }
-        ensures refused { IfSome result (λ e. (at : ℕ) → event_step at false event.now self.now ≡ record self.now { lines = self.now.lines ++ note_of 0 at 0 (Err e) }) }
-        ensures spelt { IfSome result (λ _. IsSpeltAt (node_of event.now) self.now) }
+    fn refusal_of(&self, node: NodeId, event: &NodeEvent<u32>) -> Option<Refusal>
+        requires { IsUnheard event.now }
+        ensures refused { IfSome result (λ e. (at : ℕ) → event_step at false (event_of node event.now) self.now ≡ record self.now { lines = self.now.lines ++ note_of 0 at 0 (Err e) }) }
+        ensures spelt { IfSome result (λ _. IsSpeltAt node self.now) }
     {
         match event {
-            Event::Restart { .. } => None,
-            Event::Device { .. } => None,
-            _ => self.refusal_at(node_of(event)),
+            NodeEvent::Restart | NodeEvent::Device => None,
+            _ => self.refusal_at(node),
         }
     }
 
     /// The refusal of each event of a node but a restart and a device call, where the node isn't up.
     fn refusal_at(&self, node: NodeId) -> Option<Refusal>
-        ensures refused { IfSome result (λ e. (at : ℕ) (event : NodeEvent) → event ≢ NodeEvent.Restart → event ≢ NodeEvent.Device
+        ensures refused { IfSome result (λ e. (at : ℕ) (event : NodeEvent Message) → event ≢ NodeEvent.Restart → event ≢ NodeEvent.Device
             → at_node node at false event self.now ≡ record self.now { lines = self.now.lines ++ note_of node at 0 (Err e) }) }
         ensures spelt { IfSome result (λ _. IsSpeltAt node self.now) }
     {

@@ -33,6 +33,6 @@ pub use cluster::{Cluster, shown};
 pub use random_events::{MAX_STEPS, random};
 pub use random_text::random_run;
 pub use rr_node::Stance;
-pub use rr_text::{BoundNames, Event, Fill, MAX_EVENTS, Report, ReportLine, Schedule};
-pub use simulator::{accepted, node_of, nodes_after, simulate};
+pub use rr_text::{BoundNames, Event, Fill, Happening, MAX_EVENTS, Report, ReportLine, Schedule};
+pub use simulator::{accepted, nodes_after, simulate};
 pub use telling::{report_on, tell_read};

@@ -10,8 +10,10 @@ use rand_core::SeedableRng;
 use rand_core::utils::NextWord;
 use rand_pcg::Pcg32;
 use rr_stream::{Sink, tell_step};
-use rr_text::{Event, Fill, Schedule};
-use rr_types::{Command, Message, Name, NodeId, NodeSet, Nodes, Op, RequestNo, Value};
+use rr_text::{Event, Fill, Happening, Schedule};
+use rr_types::{
+    Command, Input, Message, Name, NodeEvent, NodeId, NodeSet, Nodes, Op, RequestNo, Value,
+};
 use std::alloc::{AllocError, Global};
 
 /// The most steps of a random schedule: with the openings of seven nodes they make a million events.
@@ -73,9 +75,9 @@ pub(crate) fn openings(alloc: Global, nodes: Nodes) -> Result<Vec<Event>, AllocE
 fn push_opening(events: &mut Vec<Event>, node: NodeId) -> Result<(), AllocError>
     ensures ok { OnOk result (events.new.items ≡ events.old.items ++ opening_of node) }
 {
-    events.push(Event::Restart { node })?;
+    events.push(Event::at(node, NodeEvent::Restart))?;
     for _call in 0..CALLS_OF_AN_OPENING {
-        events.push(Event::Device { node })?;
+        events.push(Event::at(node, NodeEvent::Device))?;
     }
     Ok(())
 }
@@ -169,34 +171,30 @@ fn event_of_kind(
     ensures valid { IfOk result (λ event. IsEvent nodes event) }
 {
     Ok(match kind {
-        0 => Event::Submit {
-            node,
-            command: claim_of(word),
-        },
+        0 => Event::told(node, Input::Submit(claim_of(word))),
         1..=7 => hearing(nodes, wire, node, word),
-        8 => Event::Suspect {
+        8 => Event::told(node, Input::Suspect(suspects_of(nodes, word))),
+        9 => Event::told(node, Input::Tick),
+        10 => Event::told(node, Input::Advance),
+        11..=12 => Event::at(node, NodeEvent::Take),
+        13..=20 => Event::at(node, NodeEvent::Device),
+        21..=22 => Event::at(node, NodeEvent::Mark),
+        23..=26 => Event::at(node, NodeEvent::Send),
+        27 => Event::at(node, NodeEvent::Acknowledge),
+        28 => Event::at(node, NodeEvent::Snap),
+        29 => Event {
             node,
-            set: suspects_of(nodes, word),
+            what: Happening::Fail(fill_of(alloc, word)?),
         },
-        9 => Event::Tick { node },
-        10 => Event::Advance { node },
-        11..=12 => Event::Take { node },
-        13..=20 => Event::Device { node },
-        21..=22 => Event::Mark { node },
-        23..=26 => Event::Send { node },
-        27 => Event::Ack { node },
-        28 => Event::Snap { node },
-        29 => Event::Fail {
+        30 => Event {
             node,
-            fill: fill_of(alloc, word)?,
+            what: Happening::Crash {
+                cut_0: word / 256 % 1024,
+                cut_1: word / 256 % 1024,
+                fill: fill_of(alloc, word)?,
+            },
         },
-        30 => Event::Crash {
-            node,
-            cut_0: word / 256 % 1024,
-            cut_1: word / 256 % 1024,
-            fill: fill_of(alloc, word)?,
-        },
-        _ => Event::Restart { node },
+        _ => Event::at(node, NodeEvent::Restart),
     })
 }
 
@@ -225,15 +223,12 @@ fn hearing(nodes: Nodes, wire: &[Message], node: NodeId, word: u32) -> Event
     ensures valid { IsEvent nodes result }
 {
     if wire.is_empty() {
-        return Event::Hear { node, message: 0 };
+        return Event::told(node, Input::Hear(0));
     }
     let number = word as usize % wire.len();
     let to = wire[number].to;
     let node = if to.index() < nodes.count() { to } else { node };
-    Event::Hear {
-        node,
-        message: number as u32,
-    }
+    Event::told(node, Input::Hear(number as u32))
 }
 
 /// The nodes whose bits a word has.

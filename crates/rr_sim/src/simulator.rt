@@ -5,13 +5,13 @@ ghost use Rattle.rr_sim.specs.Clusters as cluster;
 ghost use Rattle.std.specs.List.{AllByRecursion};
 ghost use Rattle.rr_sim.specs.Clusters.{first_fault, Leads, LeadsSpelt, IsOnlyOneIfClean, new_cluster};
 ghost use Rattle.rr_sim.specs.Headline.{IsRunOfTheWorld, AgreesWithOneList, KeepsRealTime};
-ghost use Rattle.rr_text.specs.Scheduled.{node_of, IsEvent};
+ghost use Rattle.rr_text.specs.Scheduled.{IsEvent};
 
 use crate::chosen::decided_list;
 use crate::cluster::Cluster;
 use rr_node::Node;
 use rr_text::{Event, Report, Schedule};
-use rr_types::{NodeId, Nodes, Refusal};
+use rr_types::{Nodes, Refusal};
 use std::alloc::{AllocError, Global};
 
 /// Runs a schedule on `nodes` nodes that are all down at first, over empty disks, and reports what comes of it.
@@ -81,34 +81,12 @@ fn first_fault(nodes: Nodes, events: &[Event]) -> Option<u64>
 {
     let mut line = 2u64;
     for event in events {
-        if node_of(event).index() >= nodes.count() {
+        if event.node.index() >= nodes.count() {
             return Some(line);
         }
         line += 1;
     }
     None
-}
-
-/// The node at which an event is.
-pub fn node_of(event: &Event) -> NodeId
-    ensures { result ≡ node_of event.now }
-{
-    match event {
-        Event::Submit { node, .. }
-        | Event::Hear { node, .. }
-        | Event::Suspect { node, .. }
-        | Event::Tick { node }
-        | Event::Advance { node }
-        | Event::Take { node }
-        | Event::Device { node }
-        | Event::Fail { node, .. }
-        | Event::Mark { node }
-        | Event::Send { node }
-        | Event::Ack { node }
-        | Event::Snap { node }
-        | Event::Crash { node, .. }
-        | Event::Restart { node } => *node,
-    }
 }
 
 /// Runs events, and reports.

@@ -5,7 +5,7 @@ use Rattle.std.specs.List.{AllByRecursion}
 use Rattle.std.proofs.lemmas.List.{take_more, length-take-le}
 use Rattle.std.proofs.lemmas.Option.{slice_get_read}
 use Rattle.rr_text.specs.declared.event.Event.{Event}
-use Rattle.rr_text.specs.Scheduled.{IsEvent, node_of}
+use Rattle.rr_text.specs.Scheduled.{IsEvent}
 use Rattle.rr_sim.specs.Clusters.{first_fault}
 use Rattle.rr_sim.proofs.ClusterLaws.{all_at}
 use Rattle.rr_sweep.specs.declared.sweeping.SweepLine.{SweepLine}
@@ -13,16 +13,16 @@ use Rattle.rr_sweep.specs.declared.sweeping.Sweeping.{Sweeping}
 use Rattle.rr_sweep.specs.Sweeps.{HasSwept, IsNext}
 
 -- where no event is at fault, each is at a node that is there
-there_by : (n at : ℕ) (b : Bool) (x : Event) (xs : List Event) → nat_lt (node_of x) n ≡ b → (if b then first_fault n (at + 1) xs else Some at) ≡ None → (node_of x < n) × (first_fault n (at + 1) xs ≡ None)
+there_by : (n at : ℕ) (b : Bool) (x : Event) (xs : List Event) → nat_lt x.node n ≡ b → (if b then first_fault n (at + 1) xs else Some at) ≡ None → (x.node < n) × (first_fault n (at + 1) xs ≡ None)
 there_by n at true x xs less none = (ltb-true _ _ less, none)
 there_by n at false x xs less none = let no : Some at ≡ None = none in absurd (cc)
 
-each_there : (n at : ℕ) (xs : List Event) (k : ℕ) (e : Event) → first_fault n at xs ≡ None → slice_get xs k ≡ Some e → node_of e < n
+each_there : (n at : ℕ) (xs : List Event) (k : ℕ) (e : Event) → first_fault n at xs ≡ None → slice_get xs k ≡ Some e → e.node < n
 each_there n at [] k e none here = let no : None ≡ Some e = here in absurd (cc)
 each_there n at (x ∷ xs) zero e none here =
     let same : x ≡ e = (let both : Some x ≡ Some e = here in cc) in
-    subst (λ (y : Event). node_of y < n) same (there_by n at (nat_lt (node_of x) n) x xs refl none).0
-each_there n at (x ∷ xs) (suc k) e none here = each_there n (at + 1) xs k e (there_by n at (nat_lt (node_of x) n) x xs refl none).1 here
+    subst (λ (y : Event). y.node < n) same (there_by n at (nat_lt x.node n) x xs refl none).0
+each_there n at (x ∷ xs) (suc k) e none here = each_there n (at + 1) xs k e (there_by n at (nat_lt x.node n) x xs refl none).1 here
 
 module _ (n m seed : ℕ) (events : List Event) (each : AllByRecursion (IsEvent m) events) (none : first_fault n 2 events ≡ None) where
   -- the event at this place is the next

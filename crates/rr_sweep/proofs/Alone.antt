@@ -16,7 +16,7 @@ use Rattle.rr_journal.specs.Openings.{After, Goes, Stops, bytes_in, snapshot_wit
 use Rattle.rr_image.specs.Migration.{migrated, may_migrate}
 use Rattle.rr_journal.specs.OtherAreas.{other_area}
 use Rattle.rr_journal.proofs.OpeningLaws.{read_at_rest}
-use Rattle.rr_node.specs.declared.event.NodeEvent.TheVariants.{Device, Restart}
+use Rattle.rr_types.specs.declared.event.NodeEvent.TheVariants.{Device, Restart}
 use Rattle.rr_node.specs.declared.event.Outcome.{Outcome}
 use Rattle.rr_node.specs.declared.event.Outcome.TheVariants.{Quiet, Opened}
 use Rattle.rr_node.specs.Runs.{IsSpelt}

@@ -5,7 +5,6 @@ use Rattle.std.specs.List.{AllByRecursion}
 use Rattle.rr_model.specs.Laws.{after_steps}
 use Rattle.rr_node.specs.Seats.{Seat, crashed}
 use Rattle.rr_text.specs.declared.event.Event.{Event}
-use Rattle.rr_text.specs.declared.event.Event.TheVariants.{Crash}
 use Rattle.rr_text.specs.declared.report.ReportLine.{ReportLine}
 use Rattle.rr_text.specs.Reported.{Reported}
 use Rattle.rr_text.specs.Scheduled.{IsEvent}
@@ -20,7 +19,7 @@ use Rattle.rr_sim.proofs.NodeLaws.{node_laws}
 use Rattle.rr_sim.proofs.RealTimeLaws.{keeps_real_time}
 use Rattle.rr_sweep.specs.declared.ending.Ending.{Ending}
 use Rattle.rr_sweep.specs.declared.ending.Ending.TheVariants.{Open, Closed, Cut, Kept, Drawn}
-use Rattle.rr_sweep.specs.Endings.{cut_of, fill_of, crash_and_opening}
+use Rattle.rr_sweep.specs.Endings.{cut_of, fill_of, crash_of, crash_and_opening}
 use Rattle.rr_sweep.specs.Openings.{IsInSome, Opens}
 use Rattle.rr_sweep.specs.Sweeps.{IsRestartBehind}
 use Rattle.rr_sweep.proofs.InCluster.{Goes, goes_on, crash_in, opening_in}
@@ -68,7 +67,7 @@ module _ (n m : ℕ) (few : n ≤ 7) (events : List Event) (c : Cluster) (each :
       let crashed_cluster : Cluster = record c { seats = slice_set c.seats p left } in
       let up = opening_in p (at + 1) crashed_cluster left told (get_here c.seats p seat left here) opens in
       let end : Cluster = up.0 in
-      let tail : Goes at (crash_and_opening p ending w) c end = goes_on at (Crash p (cut_of ending w) (cut_of ending w) (fill_of ending w) ∷ []) (opening_of p) c crashed_cluster end down up.1 in
+      let tail : Goes at (crash_and_opening p ending w) c end = goes_on at (crash_of p (cut_of ending w) (cut_of ending w) (fill_of ending w) ∷ []) (opening_of p) c crashed_cluster end down up.1 in
       let front : Goes 2 events (new_cluster n) c = record { spelt = leads; memory = memory } in
       let all : Goes 2 (events ++ crash_and_opening p ending w) (new_cluster n) end = goes_on 2 events (crash_and_opening p ending w) (new_cluster n) c end front tail in
       let events_of : AllByRecursion (IsEvent m) (events ++ crash_and_opening p ending w) = each_of_both (IsEvent m) events (crash_and_opening p ending w) each (tail_of_events m p w ending below) in

@@ -2,11 +2,14 @@
 use Rattle.std.proofs.Common.{◌≡◌, inl, inr, ℕ, ◌+◌, ◌<◌, ◌≤◌, List, [], ◌∷◌, ◌++◌, length, Some, append-nil, append_assoc, refl, sym, ◌∙◌, ap, subst, arith}
 use Rattle.std.specs.Prelude.{false, true, slice_get}
 use Rattle.std.specs.List.{AllByRecursion}
+use Rattle.rr_types.specs.declared.event.NodeEvent.TheVariants.{Device}
 use Rattle.rr_node.specs.Seats.{Seat}
 use Rattle.rr_text.specs.declared.event.Event.{Event}
-use Rattle.rr_text.specs.declared.event.Event.TheVariants.{Device}
+use Rattle.rr_text.specs.declared.event.Happening.{Happening}
+use Rattle.rr_text.specs.declared.event.Happening.TheVariants.{At}
+use Rattle.rr_text.specs.Events.{event_of}
 use Rattle.rr_text.specs.declared.report.ReportLine.{ReportLine}
-use Rattle.rr_text.specs.Scheduled.{IsEvent, node_of}
+use Rattle.rr_text.specs.Scheduled.{IsEvent}
 use Rattle.rr_sim.specs.Clusters.{Cluster, new_cluster, Steps, IsSpeltBehind}
 use Rattle.rr_sim.specs.Random.{StepsInMemory, seeded, word}
 use Rattle.rr_sim.proofs.DrawingLemmas.{each_of_both}
@@ -93,7 +96,7 @@ module _ (n m : ℕ) (few : n ≤ 7) (events : List Event) (e : Event) (kept : C
 
 -- a sweep behind one event more
 swept_on : (n m seed at : ℕ) (events : List Event) (lines own : List SweepLine) (e : Event) (old new : Sweeping) → IsNext n m seed events lines at e old → Behind n m events e new.cluster
-    → AreLinesOf n (events ++ e ∷ []) old.generator e own → new.generator ≡ behind_event e old.generator → HasSwept n m seed (events ++ e ∷ []) (lines ++ own) new
+    → AreLinesOf n (events ++ e ∷ []) old.generator e.node e.what own → new.generator ≡ behind_event e.what old.generator → HasSwept n m seed (events ++ e ∷ []) (lines ++ own) new
 swept_on n m seed at events lines own e old new is b are words = record {
   few = is.swept.few;
   cluster = b.cluster;
@@ -108,28 +111,29 @@ swept_on n m seed at events lines own e old new is b are words = record {
 }
 
 -- its node may crash, if it is a device call
-pub may_crash : (n m : ℕ) → n ≤ 7 → (events : List Event) (e : Event) (kept : Cluster) → Behind n m events e kept → node_of e < n → MayCrash e kept
-may_crash n m few events (Device p) kept b below =
-    let there = its_seat n m few events (Device p) kept b p below in
-    (there.0, n, p, there.1, it_stands n m few events (Device p) kept b p there.0 there.1)
-may_crash n m few events _ kept b below = tt
+pub may_crash : (n m : ℕ) → n ≤ 7 → (events : List Event) (p : ℕ) (what : Happening) (kept : Cluster) → Behind n m events (record { node = p; what = what }) kept → p < n → MayCrash p what kept
+may_crash n m few events p (At Device) kept b below =
+    let there = its_seat n m few events (event_of p Device) kept b p below in
+    (there.0, n, p, there.1, it_stands n m few events (event_of p Device) kept b p there.0 there.1)
+may_crash n m few events p _ kept b below = tt
 
-its_lines : (n m seed at : ℕ) (events : List Event) (lines own : List SweepLine) (e : Event) (old now : Sweeping) → IsNext n m seed events lines at e old → Behind n m events e now.cluster
-    → now.generator ≡ old.generator → AreCrashesBehind at e now own → AreLinesOf n (events ++ e ∷ []) old.generator e own
-its_lines n m seed at events lines own (Device p) old now is b words crashes =
-    let there = its_seat n m is.swept.few events (Device p) now.cluster b p is.there in
-    let long = length_push events (Device p) in
-    let number : at ≡ length (events ++ Device p ∷ []) + 1 = omega (arith, long, is.line) in
-    let own_lines = crashes_are n m is.swept.few events (Device p) now.cluster b p at (word now.generator) there.0 all_endings own is.is_event.node there.1 number (crashes there.0 there.1) in
-    subst (λ g. AreEndings n p (events ++ Device p ∷ []) (word g) all_endings own) words own_lines
-its_lines n m seed at events lines own _ old now is b words crashes = crashes
+its_lines : (n m seed at : ℕ) (events : List Event) (lines own : List SweepLine) (p : ℕ) (what : Happening) (old now : Sweeping) → IsNext n m seed events lines at (record { node = p; what = what }) old
+    → Behind n m events (record { node = p; what = what }) now.cluster → now.generator ≡ old.generator → AreCrashesBehind at p what now own
+    → AreLinesOf n (events ++ record { node = p; what = what } ∷ []) old.generator p what own
+its_lines n m seed at events lines own p (At Device) old now is b words crashes =
+    let there = its_seat n m is.swept.few events (event_of p Device) now.cluster b p is.there in
+    let long = length_push events (event_of p Device) in
+    let number : at ≡ length (events ++ event_of p Device ∷ []) + 1 = omega (arith, long, is.line) in
+    let own_lines = crashes_are n m is.swept.few events (event_of p Device) now.cluster b p at (word now.generator) there.0 all_endings own is.is_event.node there.1 number (crashes there.0 there.1) in
+    subst (λ g. AreEndings n p (events ++ event_of p Device ∷ []) (word g) all_endings own) words own_lines
+its_lines n m seed at events lines own p _ old now is b words crashes = crashes
 
 -- the sweep behind it
 pub swept_more : (n m seed at : ℕ) (events : List Event) (lines own : List SweepLine) (e : Event) (old now new : Sweeping) → IsNext n m seed events lines at e old → Behind n m events e now.cluster
-    → now.generator ≡ old.generator → AreCrashesBehind at e now own → new.cluster ≡ now.cluster → new.generator ≡ behind_event e now.generator → HasSwept n m seed (events ++ e ∷ []) (lines ++ own) new
+    → now.generator ≡ old.generator → AreCrashesBehind at e.node e.what now own → new.cluster ≡ now.cluster → new.generator ≡ behind_event e.what now.generator → HasSwept n m seed (events ++ e ∷ []) (lines ++ own) new
 swept_more n m seed at events lines own e old now new is b same crashes stays words =
-    swept_on n m seed at events lines own e old new is (subst (λ (c : Cluster). Behind n m events e c) (sym stays) b) (its_lines n m seed at events lines own e old now is b same crashes)
-    (words ∙ ap (behind_event e) same)
+    swept_on n m seed at events lines own e old new is (subst (λ (c : Cluster). Behind n m events e c) (sym stays) b) (its_lines n m seed at events lines own e.node e.what old now is b same crashes)
+    (words ∙ ap (behind_event e.what) same)
 
 -- ---- all events
 

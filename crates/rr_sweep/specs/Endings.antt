@@ -1,7 +1,7 @@
 -- The ways in which a crash ends a device call.
 use Rattle.std.specs.Prelude.{ℕ, ◌/◌, ◌%◌, List, [], ◌∷◌}
 use Rattle.rr_text.specs.declared.event.Event.{Event}
-use Rattle.rr_text.specs.declared.event.Event.TheVariants.{Crash}
+use Rattle.rr_text.specs.declared.event.Happening.TheVariants.{Crash}
 use Rattle.rr_sim.specs.Random.{opening_of}
 use Rattle.rr_sweep.specs.declared.ending.Ending.{Ending}
 use Rattle.rr_sweep.specs.declared.ending.Ending.TheVariants.{Open, Closed, Cut, Kept, Drawn}
@@ -34,6 +34,10 @@ fill_of Cut w = []
 fill_of Kept w = []
 fill_of Drawn w = w % 256 ∷ []
 
+-- a crash of node p
+abbrev pub crash_of : ℕ → ℕ → ℕ → List ℕ → Event
+crash_of p cut_first cut_second fill = record { node = p; what = Crash cut_first cut_second fill }
+
 -- a crash of node p that ends so, and the events by which the node opens its disk
 abbrev pub crash_and_opening : ℕ → Ending → ℕ → List Event
-crash_and_opening p ending w = Crash p (cut_of ending w) (cut_of ending w) (fill_of ending w) ∷ opening_of p
+crash_and_opening p ending w = crash_of p (cut_of ending w) (cut_of ending w) (fill_of ending w) ∷ opening_of p

@@ -4,7 +4,7 @@ use Rattle.rr_types.specs.Registry.{Bindings}
 use Rattle.rr_model.specs.NodeState.{NodeState}
 use Rattle.rr_model.specs.World.{World}
 use Rattle.rr_journal.specs.Openings as phase
-use Rattle.rr_node.specs.declared.event.NodeEvent.TheVariants.{Device}
+use Rattle.rr_types.specs.declared.event.NodeEvent.TheVariants.{Device}
 use Rattle.rr_node.specs.declared.event.Outcome.TheVariants.{Quiet, Opened}
 use Rattle.rr_node.specs.Runs.{IsSpelt}
 use Rattle.rr_node.specs.Seats.{Seat, Doing, Stopped, Faulted, Opening, Serving, Resting, Journaled, seat_step}

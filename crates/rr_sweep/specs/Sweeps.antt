@@ -4,15 +4,17 @@ use Rattle.std.specs.List.{AllByRecursion, Contains}
 use Rattle.rand_pcg.specs.Lcg.{Lcg}
 use Rattle.rr_types.specs.declared.command.RequestNo.{RequestNo}
 use Rattle.rr_types.specs.declared.command.Reply.{Reply}
+use Rattle.rr_types.specs.declared.event.NodeEvent.TheVariants.{Device}
 use Rattle.rr_types.specs.Registry.{has_request}
 use Rattle.rr_node.specs.Seats.{Seat, crashed}
 use Rattle.rr_text.specs.declared.event.Event.{Event}
-use Rattle.rr_text.specs.declared.event.Event.TheVariants.{Device}
+use Rattle.rr_text.specs.declared.event.Happening.{Happening}
+use Rattle.rr_text.specs.declared.event.Happening.TheVariants.{At}
 use Rattle.rr_types.specs.declared.binding.Binding.{Binding}
 use Rattle.rr_text.specs.declared.report.ReportLine.{ReportLine}
 use Rattle.rr_text.specs.declared.report.ReportLine.TheVariants as line
 use Rattle.rr_text.specs.Reported.{Reported}
-use Rattle.rr_text.specs.Scheduled.{IsEvent, node_of}
+use Rattle.rr_text.specs.Scheduled.{IsEvent}
 use Rattle.rr_sim.specs.Clusters.{Cluster, new_cluster, LeadsSpelt, IsOnlyOneIfClean}
 use Rattle.rr_sim.specs.Headline.{IsRunOfTheWorld, AgreesWithOneList, KeepsRealTime}
 use Rattle.rr_sim.specs.Random.{LeadsInMemory, seeded, word, behind}
@@ -53,15 +55,15 @@ AreEndings n p events w (ending ∷ endings) lines =
     × IsRestartBehind n p (events ++ crash_and_opening p ending w) restart
     × AreEndings n p events w endings rest
 
--- the lines of an event, behind these events that end with it: of a device call those of the five endings, by the next word
--- of a generator, and of any other event none
-abbrev pub AreLinesOf : ℕ → List Event → Lcg → Event → List SweepLine → Type 0
-AreLinesOf n events g (Device p) lines = AreEndings n p events (word g) all_endings lines
-AreLinesOf n events g _ lines = lines ≡ []
+-- the lines of what happens at node p, behind these events that end with it: of a device call those of the five endings, by
+-- the next word of a generator, and of anything else none
+abbrev pub AreLinesOf : ℕ → List Event → Lcg → ℕ → Happening → List SweepLine → Type 0
+AreLinesOf n events g p (At Device) lines = AreEndings n p events (word g) all_endings lines
+AreLinesOf n events g p _ lines = lines ≡ []
 
--- the generator behind an event: a device call takes a word
-abbrev pub behind_event : Event → Lcg → Lcg
-behind_event (Device p) g = behind g
+-- the generator behind it: a device call takes a word
+abbrev pub behind_event : Happening → Lcg → Lcg
+behind_event (At Device) g = behind g
 behind_event _ g = g
 
 -- the lines of more events of n nodes behind others, where a generator has come so far
@@ -70,8 +72,8 @@ AreSwept n before g [] lines = lines ≡ []
 AreSwept n before g (e ∷ more) lines =
     (own : List SweepLine) × (rest : List SweepLine)
     × (lines ≡ own ++ rest)
-    × AreLinesOf n (before ++ e ∷ []) g e own
-    × AreSwept n (before ++ e ∷ []) (behind_event e g) more rest
+    × AreLinesOf n (before ++ e ∷ []) g e.node e.what own
+    × AreSwept n (before ++ e ∷ []) (behind_event e.what g) more rest
 
 -- the sweep of these events of n nodes, with the words of this seed
 abbrev pub IsSweep : ℕ → List Event → ℕ → List SweepLine → Type 0
@@ -93,7 +95,7 @@ pub record HasSwept (n m seed : ℕ) (events : List Event) (lines : List SweepLi
 pub record IsNext (n m seed : ℕ) (events : List Event) (lines : List SweepLine) (at : ℕ) (e : Event) (sweeping : Sweeping) : Type 0 where
   pub swept : HasSwept n m seed events lines sweeping
   pub is_event : IsEvent m e
-  pub there : node_of e < n
+  pub there : e.node < n
   pub line : at ≡ length events + 2
 
 -- the lines of a call on this line of node p, whose seat it leaves so, by these endings and a word
@@ -106,11 +108,12 @@ AreCrashes at p seat w (ending ∷ endings) lines =
     × AreCrashes at p seat w endings rest
 
 -- the node of a device call is there, in step with some world
-abbrev pub MayCrash : Event → Cluster → Type 0
-MayCrash (Device p) c = (seat : Seat) × (n : ℕ) × (q : ℕ) × (slice_get c.seats p ≡ Some seat) × IsInSome n q seat
-MayCrash _ c = Unit {0}
+abbrev pub MayCrash : ℕ → Happening → Cluster → Type 0
+MayCrash p (At Device) c = (seat : Seat) × (n : ℕ) × (q : ℕ) × (slice_get c.seats p ≡ Some seat) × IsInSome n q seat
+MayCrash p _ c = Unit {0}
 
--- the lines of the crashes behind the event of this line, where a sweep has come so far: of a device call five, else none
-abbrev pub AreCrashesBehind : ℕ → Event → Sweeping → List SweepLine → Type 0
-AreCrashesBehind at (Device p) s lines = (seat : Seat) → slice_get s.cluster.seats p ≡ Some seat → AreCrashes at p seat (word s.generator) all_endings lines
-AreCrashesBehind at _ s lines = lines ≡ []
+-- the lines of the crashes behind what happens on this line at node p, where a sweep has come so far: of a device call five,
+-- else none
+abbrev pub AreCrashesBehind : ℕ → ℕ → Happening → Sweeping → List SweepLine → Type 0
+AreCrashesBehind at p (At Device) s lines = (seat : Seat) → slice_get s.cluster.seats p ≡ Some seat → AreCrashes at p seat (word s.generator) all_endings lines
+AreCrashesBehind at p _ s lines = lines ≡ []

@@ -2,15 +2,15 @@
 
 ghost use Rattle.std.specs.Prelude.{◌≡◌, ◌⊎◌, ◌+◌, ℕ, Ok, IfOk, MatchOption};
 ghost use Rattle.rr_types.specs.Registry.{Bindings};
-ghost use Rattle.rr_node.specs.declared.event.NodeEvent.TheVariants as event;
+ghost use Rattle.rr_types.specs.declared.event.NodeEvent.TheVariants as event;
 ghost use Rattle.rr_node.specs.declared.event.Outcome.TheVariants.{Quiet, Opened};
 ghost use Rattle.rr_node.specs.Runs.{IsSpelt};
 ghost use Rattle.rr_node.specs.Seats.{Stopped, seat_step};
 ghost use Rattle.rr_sweep.specs.Openings.{HasOpened, IsInSome, IsOpening, Opens};
 
-use rr_node::{BoundNames, Node, NodeEvent, Outcome};
+use rr_node::{BoundNames, Node, Outcome};
 use rr_sim::{ReportLine, shown};
-use rr_types::{NodeId, Refusal};
+use rr_types::{NodeEvent, NodeId, Refusal};
 use std::alloc::{AllocError, Global};
 
 /// The device calls of an opening that formats its disk; one that finds it formatted makes no more.

@@ -14,8 +14,8 @@ use rand_core::SeedableRng;
 use rand_core::utils::NextWord;
 use rand_pcg::Pcg32;
 use rr_node::Node;
-use rr_sim::{Cluster, Event, ReportLine};
-use rr_types::{NodeId, Nodes};
+use rr_sim::{Cluster, Event, Happening, ReportLine};
+use rr_types::{NodeEvent, NodeId, Nodes};
 use std::alloc::{AllocError, Global};
 
 /// A line of a sweep.
@@ -73,16 +73,16 @@ impl Sweeping {
         line: u64,
         event: &Event,
     ) -> Result<Vec<SweepLine>, AllocError>
-        requires { MayCrash event.now self.old.cluster }
+        requires { MayCrash event.now.node event.now.what self.old.cluster }
         ensures cluster { self.new.cluster ≡ self.old.cluster }
-        ensures words { self.new.generator ≡ behind_event event.now self.old.generator }
-        ensures lines { IfOk result (λ lines. AreCrashesBehind line event.now self.old lines.items) }
+        ensures words { self.new.generator ≡ behind_event event.now.what self.old.generator }
+        ensures lines { IfOk result (λ lines. AreCrashesBehind line event.now.node event.now.what self.old lines.items) }
     {
-        match event {
-            Event::Device { node } => {
+        match event.what {
+            Happening::At(NodeEvent::Device) => {
                 let word = self.generator.next_word();
-                match self.cluster.node(*node) {
-                    Some(seat) => endings(alloc, line, *node, seat, word),
+                match self.cluster.node(event.node) {
+                    Some(seat) => endings(alloc, line, event.node, seat, word),
                     None => unreachable!(),
                 }
             }

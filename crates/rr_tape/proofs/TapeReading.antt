@@ -8,25 +8,28 @@ use Rattle.rr_types.specs.declared.command.Reply.{Reply}
 use Rattle.rr_types.specs.declared.refusal.Refusal.{Refusal}
 use Rattle.rr_types.specs.declared.refusal.Refusal.TheVariants.{OutOfMemory}
 use Rattle.rr_text.specs.declared.event.Event.{Event}
-use Rattle.rr_text.specs.declared.event.Event.TheVariants as events
+use Rattle.rr_text.specs.declared.event.Happening.{Happening}
+use Rattle.rr_text.specs.declared.event.Happening.TheVariants.{At, Fail, Crash}
+use Rattle.rr_types.specs.declared.event.NodeEvent.TheVariants as events
 use Rattle.rr_text.specs.declared.kind.EventKind.{EventKind}
 use Rattle.rr_text.specs.declared.kind.EventKind.TheVariants as keywords
-use Rattle.rr_text.specs.Words.{spaced, set_text}
+use Rattle.rr_text.specs.Events.{event_of}
+use Rattle.rr_text.specs.Words.{spaced}
 use Rattle.rr_text.specs.Lines.{HasNoLine, IsFault}
 use Rattle.rr_text.specs.Scheduled.{IsEvent}
 use Rattle.rr_text.specs.ScheduleTexts.{event_text}
 use Rattle.rr_text.specs.ReportTexts.{request_text, message_words, reply_words}
-use Rattle.rr_text.specs.Reading.{◌>>=◌, cut_at, small_at, node_at, keyword_text, keyword_at, fields_at, event_at}
+use Rattle.rr_text.specs.Reading.{◌>>=◌, cut_at, small_at, node_at, keyword_text, keyword_at, fields_at}
 use Rattle.rr_text.proofs.CutLemmas.{AtLeast, bind_some, cut_again, cut_takes}
-use Rattle.rr_text.proofs.OpReading.{submitted_text}
-use Rattle.rr_text.proofs.EventReading.{joined, keyword_takes, keyword_again, keyword_plain, submit_text, fields_takes, event_again, event_plain}
+use Rattle.rr_text.proofs.EventReading.{joined, keyword_takes, keyword_again, keyword_plain, fields_takes, event_again, event_plain}
 use Rattle.rr_text.proofs.LineReading.{AreLines, line_uncut, line_unread}
 use Rattle.rr_text.proofs.TextReading.{AreTexts, IsText, text_one, only_memory}
 use Rattle.rr_tape.specs.declared.tape_event.TapeEvent.{TapeEvent}
-use Rattle.rr_tape.specs.declared.tape_event.TapeEvent.TheVariants.{Submit, Hear, Suspect, Tick, Advance, Take, Mark, Send, Ack}
-use Rattle.rr_tape.specs.Taped.{Taped, IsMessage, IsRequest, IsReply, IsTapeEvent, IsTape}
+use Rattle.rr_tape.specs.declared.tape_event.Recorded.{Recorded}
+use Rattle.rr_tape.specs.declared.tape_event.Recorded.TheVariants.{Told, Take, Mark, Sent, Acked}
+use Rattle.rr_tape.specs.Taped.{Taped, IsMessage, IsRequest, IsReply, of_node, IsTapeEvent, IsTape}
 use Rattle.rr_tape.specs.TapeTexts.{tape_words, tape_line, tape_text}
-use Rattle.rr_tape.specs.Reading.{both_at, request_at, reply_at, message_at, recorded, tape_fields_at, tape_event_at}
+use Rattle.rr_tape.specs.Reading.{both_at, request_at, reply_at, message_at, as_recorded, tape_fields_at, tape_event_at}
 use Rattle.rr_tape.proofs.Readers.{IsReader, taken_as, beside, small_word, node_word}
 use Rattle.rr_tape.proofs.MessageReading.{request_word, message_text, reply_reader, spaced_reply}
 
@@ -45,40 +48,43 @@ acked_words x = decimal x.0 ++ 32 ∷ (request_text x.1.0 ++ 32 ∷ spaced (repl
 acked_text : (n : ℕ) → n ≤ 7 → IsReader 32 (both_at (node_at n) (both_at request_at reply_at)) acked_words (λ x. (x.0 < n) × (IsRequest x.1.0 × IsReply x.1.1))
 acked_text n few = beside (node_word n few) (beside request_word reply_reader)
 
-ack_words : (p : ℕ) (q : RequestNo) (r : Reply) → words_of (Ack p q r) ≡ codes "ack " ++ acked_words (p, (q, r))
+ack_words : (p : ℕ) (q : RequestNo) (r : Reply) → words_of (of_node p (Acked q r)) ≡ codes "ack " ++ acked_words (p, (q, r))
 ack_words p q r = ap (λ (w : List ℕ). codes "ack " ++ (decimal p ++ 32 ∷ w)) (spaced_reply (request_text q) r)
 
 -- ---- inputs
 
 -- an event of a tape has the words of the event of a schedule that it is
-recorded_words : (n : ℕ) (e : Event) (t : TapeEvent) → recorded e ≡ Some t → IsEvent n e → (words_of t ≡ event_text e) × IsTapeEvent n t
-recorded_words n (events.Submit p c) t e h = subst (λ (u : TapeEvent). (words_of u ≡ event_text (events.Submit p c)) × IsTapeEvent n u) (same_Some (Submit p c) t e) (refl, (h.node, h.fields))
-recorded_words n (events.Hear p k) t e h = subst (λ (u : TapeEvent). (words_of u ≡ event_text (events.Hear p k)) × IsTapeEvent n u) (same_Some (Hear p k) t e) (refl, (h.node, h.fields))
-recorded_words n (events.Suspect p s) t e h = subst (λ (u : TapeEvent). (words_of u ≡ event_text (events.Suspect p s)) × IsTapeEvent n u) (same_Some (Suspect p s) t e) (refl, (h.node, h.fields))
-recorded_words n (events.Tick p) t e h = subst (λ (u : TapeEvent). (words_of u ≡ event_text (events.Tick p)) × IsTapeEvent n u) (same_Some (Tick p) t e) (refl, h.node)
-recorded_words n (events.Advance p) t e h = subst (λ (u : TapeEvent). (words_of u ≡ event_text (events.Advance p)) × IsTapeEvent n u) (same_Some (Advance p) t e) (refl, h.node)
-recorded_words n (events.Take p) t e h = subst (λ (u : TapeEvent). (words_of u ≡ event_text (events.Take p)) × IsTapeEvent n u) (same_Some (Take p) t e) (refl, h.node)
-recorded_words n (events.Mark p) t e h = subst (λ (u : TapeEvent). (words_of u ≡ event_text (events.Mark p)) × IsTapeEvent n u) (same_Some (Mark p) t e) (refl, h.node)
-recorded_words n (events.Device p) t e h = absurd cc
-recorded_words n (events.Fail p f) t e h = absurd cc
-recorded_words n (events.Send p) t e h = absurd cc
-recorded_words n (events.Ack p) t e h = absurd cc
-recorded_words n (events.Snap p) t e h = absurd cc
-recorded_words n (events.Crash p a b f) t e h = absurd cc
-recorded_words n (events.Restart p) t e h = absurd cc
+recorded_words : (n p : ℕ) (h : Happening) (t : TapeEvent) → as_recorded (record { node = p; what = h }) ≡ Some t → IsEvent n (record { node = p; what = h })
+    → (words_of t ≡ event_text (record { node = p; what = h })) × IsTapeEvent n t
+recorded_words n p (At (events.Told input)) t e h =
+    subst (λ (u : TapeEvent). (words_of u ≡ event_text (event_of p (events.Told input))) × IsTapeEvent n u) (same_Some (of_node p (Told input)) t e)
+    (refl, record { node = h.node; what = h.fields })
+recorded_words n p (At events.Take) t e h =
+    subst (λ (u : TapeEvent). (words_of u ≡ event_text (event_of p events.Take)) × IsTapeEvent n u) (same_Some (of_node p Take) t e) (refl, record { node = h.node; what = tt })
+recorded_words n p (At events.Mark) t e h =
+    subst (λ (u : TapeEvent). (words_of u ≡ event_text (event_of p events.Mark)) × IsTapeEvent n u) (same_Some (of_node p Mark) t e) (refl, record { node = h.node; what = tt })
+recorded_words n p (At events.Device) t e h = absurd cc
+recorded_words n p (At events.Send) t e h = absurd cc
+recorded_words n p (At events.Acknowledge) t e h = absurd cc
+recorded_words n p (At events.Snap) t e h = absurd cc
+recorded_words n p (At events.Restart) t e h = absurd cc
+recorded_words n p (Fail f) t e h = absurd cc
+recorded_words n p (Crash a b f) t e h = absurd cc
 
-input_takes : (n : ℕ) (k : EventKind) (text : List ℕ) (t : TapeEvent) → n ≤ 7 → (fields_at n k text >>= recorded) ≡ Some t → (words_of t ≡ keyword_text k ++ 32 ∷ text) × IsTapeEvent n t
+input_takes : (n : ℕ) (k : EventKind) (text : List ℕ) (t : TapeEvent) → n ≤ 7 → (fields_at n k text >>= as_recorded) ≡ Some t → (words_of t ≡ keyword_text k ++ 32 ∷ text) × IsTapeEvent n t
 input_takes n k text t few given =
-    let e = bind_some (fields_at n k text) recorded t given in
+    let e = bind_some (fields_at n k text) as_recorded t given in
     let was = fields_takes n k text e.0 few e.1 in
-    let r = recorded_words n e.0 t e.2 was.fits in
+    let r = recorded_words n e.0.node e.0.what t e.2 was.fits in
     (r.0 ∙ was.printed, r.1)
 
 -- ---- events
 
 tape_fields_takes : (n : ℕ) (k : EventKind) (text : List ℕ) (t : TapeEvent) → n ≤ 7 → tape_fields_at n k text ≡ Some t → (words_of t ≡ keyword_text k ++ 32 ∷ text) × IsTapeEvent n t
-tape_fields_takes n keywords.Send text t few given = taken_as (sent_text n few) (λ x. Send x.0 x.1) words_of (IsTapeEvent n) (codes "send") (λ x. refl) (λ x h. h) text t given
-tape_fields_takes n keywords.Ack text t few given = taken_as (acked_text n few) (λ x. Ack x.0 x.1.0 x.1.1) words_of (IsTapeEvent n) (codes "ack") (λ x. ack_words x.0 x.1.0 x.1.1) (λ x h. (h.0, h.1.0, h.1.1)) text t given
+tape_fields_takes n keywords.Send text t few given =
+    taken_as (sent_text n few) (λ x. of_node x.1.from (Sent x.0 x.1)) words_of (IsTapeEvent n) (codes "send") (λ x. refl) (λ x h. record { node = h.1.from; what = (h.0, refl, h.1) }) text t given
+tape_fields_takes n keywords.Ack text t few given =
+    taken_as (acked_text n few) (λ x. of_node x.0 (Acked x.1.0 x.1.1)) words_of (IsTapeEvent n) (codes "ack") (λ x. ack_words x.0 x.1.0 x.1.1) (λ x h. record { node = h.0; what = h.1 }) text t given
 tape_fields_takes n k text t few given = input_takes n k text t few given
 
 tape_event_takes : (n : ℕ) (text : List ℕ) (t : TapeEvent) → n ≤ 7 → tape_event_at n text ≡ Some t → (words_of t ≡ text) × IsTapeEvent n t
@@ -93,36 +99,48 @@ tape_event_takes n text t few given =
 tape_fields_is : (n : ℕ) (k : EventKind) (text : List ℕ) → tape_event_at n (keyword_text k ++ 32 ∷ text) ≡ tape_fields_at n k text
 tape_fields_is n k text = rw (cut_again 32 33 (keyword_text k) text (omega arith) (keyword_plain k), keyword_again k) refl
 
-fields_is : (n : ℕ) (k : EventKind) (text : List ℕ) → event_at n (keyword_text k ++ 32 ∷ text) ≡ fields_at n k text
-fields_is n k text = rw (cut_again 32 33 (keyword_text k) text (omega arith) (keyword_plain k), keyword_again k) refl
+-- fields that are read as an event of a schedule are read as the event of a tape that it is
+fields_again : (n : ℕ) (k : EventKind) (text : List ℕ) (e : Event) (t : TapeEvent) → fields_at n k text ≡ Some e → as_recorded e ≡ Some t → tape_fields_at n k text ≡ Some t
+fields_again n keywords.Send text e t read is =
+    let p = bind_some (node_at n text) (λ p. Some (event_of p events.Send)) e read in
+    absurd (let no : None ≡ Some t = ap as_recorded (same_Some (event_of p.0 events.Send) e p.2) ∙ is in cc)
+fields_again n keywords.Ack text e t read is =
+    let p = bind_some (node_at n text) (λ p. Some (event_of p events.Acknowledge)) e read in
+    absurd (let no : None ≡ Some t = ap as_recorded (same_Some (event_of p.0 events.Acknowledge) e p.2) ∙ is in cc)
+fields_again n k text e t read is = ap (λ (o : Option Event). o >>= as_recorded) read ∙ is
 
-input_again : (n : ℕ) (k : EventKind) (text : List ℕ) (e : Event) → n ≤ 7 → IsEvent n e → event_text e ≡ keyword_text k ++ 32 ∷ text → (tape_fields_at n k text ≡ (fields_at n k text >>= recorded)) → tape_event_at n (event_text e) ≡ recorded e
-input_again n k text e few h is as_input =
-    let read : fields_at n k text ≡ Some e = sym (fields_is n k text) ∙ ap (event_at n) (sym is) ∙ event_again n e few h in
-    ap (tape_event_at n) is ∙ tape_fields_is n k text ∙ as_input ∙ ap (λ (o : Option Event). o >>= recorded) read
+-- so is a text
+input_again : (n : ℕ) (e : Event) (t : TapeEvent) → n ≤ 7 → IsEvent n e → as_recorded e ≡ Some t → tape_event_at n (event_text e) ≡ Some t
+input_again n e t few h is =
+    let w = bind_some (cut_at 32 (event_text e)) (λ w. keyword_at w.0 >>= λ k. fields_at n k w.1) e (event_again n e few h) in
+    let k = bind_some (keyword_at w.0.0) (λ k. fields_at n k w.0.1) e w.2 in
+    ap (λ (o : Option (List ℕ × List ℕ)). o >>= λ w. keyword_at w.0 >>= λ k. tape_fields_at n k w.1) w.1
+    ∙ ap (λ (o : Option EventKind). o >>= λ k. tape_fields_at n k w.0.1) k.1
+    ∙ fields_again n k.0 w.0.1 e t k.2 is
+
+recorded_again : (n p : ℕ) (r : Recorded) → n ≤ 7 → IsTapeEvent n (of_node p r) → tape_event_at n (words_of (of_node p r)) ≡ Some (of_node p r)
+recorded_again n p (Told input) few h = input_again n (event_of p (events.Told input)) (of_node p (Told input)) few (record { node = h.node; fields = h.what }) refl
+recorded_again n p Take few h = input_again n (event_of p events.Take) (of_node p Take) few (record { node = h.node; fields = tt }) refl
+recorded_again n p Mark few h = input_again n (event_of p events.Mark) (of_node p Mark) few (record { node = h.node; fields = tt }) refl
+recorded_again n p (Sent k m) few h =
+    let read : tape_event_at n (words_of (of_node p (Sent k m))) ≡ Some (of_node m.from (Sent k m)) = tape_fields_is n keywords.Send (decimal k ++ 32 ∷ spaced (message_words m)) ∙ rw ((sent_text n few).again (k, m) (h.what.0, h.what.2)) refl in
+    read ∙ ap (λ (q : ℕ). Some (of_node q (Sent k m))) h.what.1
+recorded_again n p (Acked q r) few h = ap (tape_event_at n) (ack_words p q r) ∙ tape_fields_is n keywords.Ack (acked_words (p, (q, r))) ∙ rw ((acked_text n few).again (p, (q, r)) (h.node, h.what)) refl
 
 tape_event_again : (n : ℕ) (t : TapeEvent) → n ≤ 7 → IsTapeEvent n t → tape_event_at n (words_of t) ≡ Some t
-tape_event_again n (Submit p c) few h = input_again n keywords.Submit (decimal p ++ 32 ∷ submitted_text c) (events.Submit p c) few (record { node = h.0; fields = h.1 }) (submit_text p c) refl
-tape_event_again n (Hear p k) few h = input_again n keywords.Hear (decimal p ++ 32 ∷ decimal k) (events.Hear p k) few (record { node = h.0; fields = h.1 }) refl refl
-tape_event_again n (Suspect p s) few h = input_again n keywords.Suspect (decimal p ++ 32 ∷ set_text s) (events.Suspect p s) few (record { node = h.0; fields = h.1 }) refl refl
-tape_event_again n (Tick p) few h = input_again n keywords.Tick (decimal p) (events.Tick p) few (record { node = h; fields = tt }) refl refl
-tape_event_again n (Advance p) few h = input_again n keywords.Advance (decimal p) (events.Advance p) few (record { node = h; fields = tt }) refl refl
-tape_event_again n (Take p) few h = input_again n keywords.Take (decimal p) (events.Take p) few (record { node = h; fields = tt }) refl refl
-tape_event_again n (Mark p) few h = input_again n keywords.Mark (decimal p) (events.Mark p) few (record { node = h; fields = tt }) refl refl
-tape_event_again n (Send k m) few h = tape_fields_is n keywords.Send (decimal k ++ 32 ∷ spaced (message_words m)) ∙ rw ((sent_text n few).again (k, m) h) refl
-tape_event_again n (Ack p q r) few h = ap (tape_event_at n) (ack_words p q r) ∙ tape_fields_is n keywords.Ack (acked_words (p, (q, r))) ∙ rw ((acked_text n few).again (p, (q, r)) (h.0, (h.1, h.2))) refl
+tape_event_again n t few h = recorded_again n t.node t.what few h
 
 -- the words of an event have no line feed
+recorded_plain : (n p : ℕ) (r : Recorded) → n ≤ 7 → IsTapeEvent n (of_node p r) → AtLeast 32 (words_of (of_node p r))
+recorded_plain n p (Told input) few h = event_plain n (event_of p (events.Told input)) few (record { node = h.node; fields = h.what })
+recorded_plain n p Take few h = event_plain n (event_of p events.Take) few (record { node = h.node; fields = tt })
+recorded_plain n p Mark few h = event_plain n (event_of p events.Mark) few (record { node = h.node; fields = tt })
+recorded_plain n p (Sent k m) few h = joined (keyword_text keywords.Send) (decimal k ++ 32 ∷ spaced (message_words m)) (keyword_plain keywords.Send) ((sent_text n few).plain (k, m) (h.what.0, h.what.2))
+recorded_plain n p (Acked q r) few h =
+    subst (λ (w : List ℕ). AtLeast 32 w) (sym (ack_words p q r)) (joined (keyword_text keywords.Ack) (acked_words (p, (q, r))) (keyword_plain keywords.Ack) ((acked_text n few).plain (p, (q, r)) (h.node, h.what)))
+
 tape_event_plain : (n : ℕ) (t : TapeEvent) → n ≤ 7 → IsTapeEvent n t → AtLeast 32 (words_of t)
-tape_event_plain n (Submit p c) few h = event_plain n (events.Submit p c) few (record { node = h.0; fields = h.1 })
-tape_event_plain n (Hear p k) few h = event_plain n (events.Hear p k) few (record { node = h.0; fields = h.1 })
-tape_event_plain n (Suspect p s) few h = event_plain n (events.Suspect p s) few (record { node = h.0; fields = h.1 })
-tape_event_plain n (Tick p) few h = event_plain n (events.Tick p) few (record { node = h; fields = tt })
-tape_event_plain n (Advance p) few h = event_plain n (events.Advance p) few (record { node = h; fields = tt })
-tape_event_plain n (Take p) few h = event_plain n (events.Take p) few (record { node = h; fields = tt })
-tape_event_plain n (Mark p) few h = event_plain n (events.Mark p) few (record { node = h; fields = tt })
-tape_event_plain n (Send k m) few h = joined (keyword_text keywords.Send) (decimal k ++ 32 ∷ spaced (message_words m)) (keyword_plain keywords.Send) ((sent_text n few).plain (k, m) h)
-tape_event_plain n (Ack p q r) few h = subst (λ (w : List ℕ). AtLeast 32 w) (sym (ack_words p q r)) (joined (keyword_text keywords.Ack) (acked_words (p, (q, r))) (keyword_plain keywords.Ack) ((acked_text n few).plain (p, (q, r)) (h.0, (h.1, h.2))))
+tape_event_plain n t few h = recorded_plain n t.node t.what few h
 
 -- ---- lines and tapes
 

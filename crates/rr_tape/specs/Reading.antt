@@ -14,14 +14,17 @@ use Rattle.rr_types.specs.Messages.{message_word}
 use Rattle.rr_types.specs.Rounds.{Estimated}
 use Rattle.rr_types.specs.Limits.{instance_count, last_round}
 use Rattle.rr_text.specs.declared.event.Event.{Event}
-use Rattle.rr_text.specs.declared.event.Event.TheVariants as events
+use Rattle.rr_text.specs.declared.event.Happening.{Happening}
+use Rattle.rr_text.specs.declared.event.Happening.TheVariants.{At}
+use Rattle.rr_types.specs.declared.event.NodeEvent.TheVariants as events
 use Rattle.rr_text.specs.declared.kind.EventKind.{EventKind}
 use Rattle.rr_text.specs.declared.kind.EventKind.TheVariants as keywords
 use Rattle.rr_text.specs.Words.{spaced}
 use Rattle.rr_text.specs.ReportTexts.{reply_words}
 use Rattle.rr_text.specs.Reading.{◌>>=◌, cut_at, find_by, number_at, small_at, node_at, set_at, op_at, message_kind_at, keyword_at, fields_at}
 use Rattle.rr_tape.specs.declared.tape_event.TapeEvent.{TapeEvent}
-use Rattle.rr_tape.specs.declared.tape_event.TapeEvent.TheVariants as tapes
+use Rattle.rr_tape.specs.declared.tape_event.Recorded.{Recorded}
+use Rattle.rr_tape.specs.declared.tape_event.Recorded.TheVariants as tapes
 
 -- the number of an instance
 abbrev pub instance_at : List ℕ → Option ℕ
@@ -105,30 +108,30 @@ reply_from text (Some w) = if bytes_eq w.0 (codes "taken") then (small_at w.1 >>
 abbrev pub reply_at : List ℕ → Option Reply
 reply_at text = reply_from text (cut_at 32 text)
 
--- the event of a tape that an event of a schedule is
-abbrev pub recorded : Event → Option TapeEvent
-recorded (events.Submit p c) = Some (tapes.Submit p c)
-recorded (events.Hear p k) = Some (tapes.Hear p k)
-recorded (events.Suspect p s) = Some (tapes.Suspect p s)
-recorded (events.Tick p) = Some (tapes.Tick p)
-recorded (events.Advance p) = Some (tapes.Advance p)
-recorded (events.Take p) = Some (tapes.Take p)
-recorded (events.Mark p) = Some (tapes.Mark p)
-recorded _ = None
+-- what a tape has of what happens by an event of a schedule
+abbrev pub recorded_of : Happening → Option Recorded
+recorded_of (At (events.Told input)) = Some (tapes.Told input)
+recorded_of (At events.Take) = Some tapes.Take
+recorded_of (At events.Mark) = Some tapes.Mark
+recorded_of _ = None
 
--- a message that was sent: its number and the message
+-- the event of a tape that an event of a schedule is
+abbrev pub as_recorded : Event → Option TapeEvent
+as_recorded e = recorded_of e.what >>= λ what. Some (record { node = e.node; what = what })
+
+-- a message that was sent: its number and the message, which names the node
 abbrev pub sent_at : ℕ → List ℕ → Option TapeEvent
-sent_at n text = both_at small_at (message_at n) text >>= λ x. Some (tapes.Send x.0 x.1)
+sent_at n text = both_at small_at (message_at n) text >>= λ x. Some (record { node = x.1.from; what = tapes.Sent x.0 x.1 })
 
 -- a request that was acknowledged: the node, the request number and the reply
 abbrev pub acked_at : ℕ → List ℕ → Option TapeEvent
-acked_at n text = both_at (node_at n) (both_at request_at reply_at) text >>= λ x. Some (tapes.Ack x.0 x.1.0 x.1.1)
+acked_at n text = both_at (node_at n) (both_at request_at reply_at) text >>= λ x. Some (record { node = x.0; what = tapes.Acked x.1.0 x.1.1 })
 
 -- the event of a tape of this keyword among n nodes
 abbrev pub tape_fields_at : ℕ → EventKind → List ℕ → Option TapeEvent
 tape_fields_at n keywords.Send text = sent_at n text
 tape_fields_at n keywords.Ack text = acked_at n text
-tape_fields_at n k text = fields_at n k text >>= recorded
+tape_fields_at n k text = fields_at n k text >>= as_recorded
 
 -- an event of a tape among n nodes
 abbrev pub tape_event_at : ℕ → List ℕ → Option TapeEvent

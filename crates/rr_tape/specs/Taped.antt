@@ -1,4 +1,4 @@
-use Rattle.std.specs.Prelude.{ℕ, ◌^◌, ◌<◌, ◌≤◌, List, length}
+use Rattle.std.specs.Prelude.{◌≡◌, ℕ, ◌^◌, ◌<◌, ◌≤◌, List, length}
 use Rattle.std.specs.List.{AllByRecursion}
 use Rattle.rr_types.specs.declared.command.RequestNo.{RequestNo}
 use Rattle.rr_types.specs.declared.command.Reply.{Reply}
@@ -9,8 +9,10 @@ use Rattle.rr_types.specs.declared.message.Message.{Message}
 use Rattle.rr_types.specs.Rounds.{Estimated}
 use Rattle.rr_types.specs.Limits.{instance_count, last_round, max_events, max_nodes}
 use Rattle.rr_text.specs.Words.{IsCommand}
+use Rattle.rr_text.specs.Scheduled.{IsInput}
 use Rattle.rr_tape.specs.declared.tape_event.TapeEvent.{TapeEvent}
-use Rattle.rr_tape.specs.declared.tape_event.TapeEvent.TheVariants.{Submit, Hear, Suspect, Tick, Advance, Take, Mark, Send, Ack}
+use Rattle.rr_tape.specs.declared.tape_event.Recorded.{Recorded}
+use Rattle.rr_tape.specs.declared.tape_event.Recorded.TheVariants.{Told, Take, Mark, Sent, Acked}
 
 -- a tape: how many nodes there are, and the events
 pub record Taped : Type 0 where
@@ -65,17 +67,22 @@ IsReply Unknown = Unit {0}
 IsReply NotOwner = Unit {0}
 IsReply Full = Unit {0}
 
+-- an event of node p of which a tape has this
+abbrev pub of_node : ℕ → Recorded → TapeEvent
+of_node p what = record { node = p; what = what }
+
+-- what a tape may have of node p among n nodes; a message that was sent is from the node
+abbrev pub IsRecorded : ℕ → ℕ → Recorded → Type 0
+IsRecorded n p (Told input) = IsInput n input
+IsRecorded n p Take = Unit {0}
+IsRecorded n p Mark = Unit {0}
+IsRecorded n p (Sent k m) = (k < 2 ^ 32) × (m.from ≡ p) × IsMessage n m
+IsRecorded n p (Acked q r) = IsRequest q × IsReply r
+
 -- an event of a tape, among n nodes
-abbrev pub IsTapeEvent : ℕ → TapeEvent → Type 0
-IsTapeEvent n (Submit p c) = (p < n) × IsCommand c
-IsTapeEvent n (Hear p k) = (p < n) × (k < 2 ^ 32)
-IsTapeEvent n (Suspect p s) = (p < n) × (s < 2 ^ n)
-IsTapeEvent n (Tick p) = p < n
-IsTapeEvent n (Advance p) = p < n
-IsTapeEvent n (Take p) = p < n
-IsTapeEvent n (Mark p) = p < n
-IsTapeEvent n (Send k m) = (k < 2 ^ 32) × IsMessage n m
-IsTapeEvent n (Ack p q r) = (p < n) × IsRequest q × IsReply r
+pub record IsTapeEvent (n : ℕ) (e : TapeEvent) : Type 0 where
+  pub node : e.node < n
+  pub what : IsRecorded n e.node e.what
 
 -- a tape of 1 to 7 nodes and at most a million events among them
 pub record IsTape (t : Taped) : Type 0 where

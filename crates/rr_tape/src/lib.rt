@@ -26,6 +26,6 @@ mod tape_parse;
 mod tape_text;
 
 pub use tape::Tape;
-pub use tape_event::TapeEvent;
+pub use tape_event::{Recorded, TapeEvent};
 pub use tape_law::one_tape_fault;
 pub use tape_parse::next_tape_event;

@@ -1,79 +1,45 @@
 //! The events of a tape.
 
 ghost use Rattle.std.specs.Prelude.{◌≡◌};
-ghost use Rattle.rr_tape.specs.Reading.{recorded};
+ghost use Rattle.rr_tape.specs.Reading.{as_recorded};
 
-use rr_text::Event;
-use rr_types::{Command, Message, NodeId, NodeSet, Reply, RequestNo};
+use rr_text::{Event, Happening};
+use rr_types::{Input, Message, NodeEvent, NodeId, Reply, RequestNo};
 
-/// An event of a tape, at one node: an input, or an output with what it was.
+/// An event of a tape, at one node.
 #[derive(Clone, Copy, Debug)]
-pub enum TapeEvent {
-    /// A client asked the node for a command.
-    Submit {
-        node: NodeId,
-        command: Command,
-    },
-    /// The node heard a message: its number on the wire, from 0.
-    Hear {
-        node: NodeId,
-        message: u32,
-    },
-    /// The node's suspects became these.
-    Suspect {
-        node: NodeId,
-        set: NodeSet,
-    },
-    /// The node's heartbeat detector ticked.
-    Tick {
-        node: NodeId,
-    },
-    /// The node's lowest open instance with a round entered the next one.
-    Advance {
-        node: NodeId,
-    },
+pub struct TapeEvent {
+    pub node: NodeId,
+    pub what: Recorded,
+}
+
+/// What a tape has of an event: an input, or an output with what it was.
+#[derive(Clone, Copy, Debug)]
+pub enum Recorded {
+    /// The node was told this. A message that it heard is named by its number on the wire, from 0.
+    Told(Input<u32>),
     /// The node began to flush a group of facts.
-    Take {
-        node: NodeId,
-    },
+    Take,
     /// The node marked its synced group.
-    Mark {
-        node: NodeId,
-    },
-    /// A node put a message on the wire: its number, from 0, and the message, which names the node.
-    Send {
-        number: u32,
-        message: Message,
-    },
+    Mark,
+    /// The node put a message on the wire: its number, from 0, and the message, which is from the node.
+    Sent { number: u32, message: Message },
     /// The node acknowledged a request.
-    Ack {
-        node: NodeId,
-        request: RequestNo,
-        reply: Reply,
-    },
+    Acked { request: RequestNo, reply: Reply },
 }
 
 /// The event of a tape that an event of a schedule is; `None` where a tape records it otherwise or not at all.
-pub fn recorded(event: &Event) -> Option<TapeEvent>
-    ensures { result ≡ recorded event.now }
+pub fn as_recorded(event: &Event) -> Option<TapeEvent>
+    ensures { result ≡ as_recorded event.now }
 {
-    match event {
-        Event::Submit { node, command } => Some(TapeEvent::Submit {
-            node: *node,
-            command: *command,
-        }),
-        Event::Hear { node, message } => Some(TapeEvent::Hear {
-            node: *node,
-            message: *message,
-        }),
-        Event::Suspect { node, set } => Some(TapeEvent::Suspect {
-            node: *node,
-            set: *set,
-        }),
-        Event::Tick { node } => Some(TapeEvent::Tick { node: *node }),
-        Event::Advance { node } => Some(TapeEvent::Advance { node: *node }),
-        Event::Take { node } => Some(TapeEvent::Take { node: *node }),
-        Event::Mark { node } => Some(TapeEvent::Mark { node: *node }),
-        _ => None,
-    }
+    let what = match &event.what {
+        Happening::At(NodeEvent::Told(input)) => Recorded::Told(*input),
+        Happening::At(NodeEvent::Take) => Recorded::Take,
+        Happening::At(NodeEvent::Mark) => Recorded::Mark,
+        _ => return None,
+    };
+    Some(TapeEvent {
+        node: event.node,
+        what,
+    })
 }

@@ -9,7 +9,7 @@ ghost use Rattle.rr_tape.specs.TapeTexts.{tape_line, tape_text};
 
 use crate::message_read::{body, reply, request};
 use crate::tape::Tape;
-use crate::tape_event::{TapeEvent, recorded};
+use crate::tape_event::{Recorded, TapeEvent, as_recorded};
 use rr_text::text_parse::{fields, first_line};
 use rr_text::text_read::{cut, cut_line, keyword, node, small_number};
 use rr_text::{EventKind, MAX_EVENTS};
@@ -33,7 +33,10 @@ fn sent(nodes: Nodes, text: &[u8]) -> Option<TapeEvent>
     let (word, rest) = cut(text, b' ')?;
     let number = small_number(word)?;
     let message = message(nodes, rest)?;
-    Some(TapeEvent::Send { number, message })
+    Some(TapeEvent {
+        node: message.from,
+        what: Recorded::Sent { number, message },
+    })
 }
 
 fn acked(nodes: Nodes, text: &[u8]) -> Option<TapeEvent>
@@ -44,10 +47,9 @@ fn acked(nodes: Nodes, text: &[u8]) -> Option<TapeEvent>
     let (word, rest) = cut(rest, b' ')?;
     let request = request(word)?;
     let reply = reply(rest)?;
-    Some(TapeEvent::Ack {
+    Some(TapeEvent {
         node,
-        request,
-        reply,
+        what: Recorded::Acked { request, reply },
     })
 }
 
@@ -63,7 +65,7 @@ fn tape_fields(
         EventKind::Send => Ok(sent(nodes, text)),
         EventKind::Ack => Ok(acked(nodes, text)),
         _ => match fields(alloc, nodes, keyword, text)? {
-            Some(event) => Ok(recorded(&event)),
+            Some(event) => Ok(as_recorded(&event)),
             None => Ok(None),
         },
     }

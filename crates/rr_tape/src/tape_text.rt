@@ -6,33 +6,26 @@ ghost use Rattle.rr_text.specs.Words.{spaced};
 ghost use Rattle.rr_tape.specs.TapeTexts.{tape_words, tape_line, tape_text};
 
 use crate::tape::Tape;
-use crate::tape_event::TapeEvent;
+use crate::tape_event::{Recorded, TapeEvent};
 use rr_text::text_report::push_report_words;
 use rr_text::text_schedule::{push_event, push_nodes_line};
 use rr_text::{Event, ReportLine};
+use rr_types::NodeEvent;
 use std::alloc::{AllocError, Global};
 
 fn push_tape_event(out: &mut Vec<u8>, event: &TapeEvent) -> Result<(), AllocError>
     ensures ok { OnOk result (out.new.items ≡ out.old.items ++ spaced (tape_words event.now)) }
 {
-    let event = *event;
-    match event {
-        TapeEvent::Submit { node, command } => push_event(out, &Event::Submit { node, command }),
-        TapeEvent::Hear { node, message } => push_event(out, &Event::Hear { node, message }),
-        TapeEvent::Suspect { node, set } => push_event(out, &Event::Suspect { node, set }),
-        TapeEvent::Tick { node } => push_event(out, &Event::Tick { node }),
-        TapeEvent::Advance { node } => push_event(out, &Event::Advance { node }),
-        TapeEvent::Take { node } => push_event(out, &Event::Take { node }),
-        TapeEvent::Mark { node } => push_event(out, &Event::Mark { node }),
-        TapeEvent::Send { number, message } => {
+    let TapeEvent { node, what } = *event;
+    match what {
+        Recorded::Told(input) => push_event(out, &Event::told(node, input)),
+        Recorded::Take => push_event(out, &Event::at(node, NodeEvent::Take)),
+        Recorded::Mark => push_event(out, &Event::at(node, NodeEvent::Mark)),
+        Recorded::Sent { number, message } => {
             let number = u64::from(number);
             push_report_words(out, &ReportLine::Send { number, message })
         }
-        TapeEvent::Ack {
-            node,
-            request,
-            reply,
-        } => push_report_words(
+        Recorded::Acked { request, reply } => push_report_words(
             out,
             &ReportLine::Ack {
                 node,

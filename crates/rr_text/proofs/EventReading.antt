@@ -1,19 +1,25 @@
 -- Events: reading gives what was printed, and what is read is printed so.
-use Rattle.std.proofs.Common.{◌≡◌, ℕ, ◌^◌, ◌<◌, ◌≤◌, List, [], ◌∷◌, ◌++◌, Option, Some, codes, decimal, refl, ap, subst, ◌∙◌, sym, arith}
+use Rattle.std.proofs.Common.{◌≡◌, ℕ, ◌^◌, ◌<◌, ◌≤◌, List, [], ◌∷◌, ◌++◌, Option, None, Some, codes, decimal, refl, ap, subst, ◌∙◌, sym, arith}
+use Rattle.std.specs.Prelude.{IfSome}
 use Rattle.std.proofs.lemmas.Option.{same_Some}
 use Rattle.std.proofs.lemmas.List.{append_assoc}
 use Rattle.rr_types.specs.Names.{IsName, IsValue}
 use Rattle.rr_types.specs.declared.command.Op.{Op}
 use Rattle.rr_types.specs.declared.command.Op.TheVariants as ops
 use Rattle.rr_types.specs.declared.command.Command.{Command}
+use Rattle.rr_types.specs.declared.input.Input.TheVariants as input
+use Rattle.rr_types.specs.declared.event.NodeEvent.{NodeEvent}
+use Rattle.rr_types.specs.declared.event.NodeEvent.TheVariants as node
 use Rattle.rr_text.specs.declared.event.Event.{Event}
-use Rattle.rr_text.specs.declared.event.Event.TheVariants as events
+use Rattle.rr_text.specs.declared.event.Happening.{Happening}
+use Rattle.rr_text.specs.declared.event.Happening.TheVariants as happening
 use Rattle.rr_text.specs.declared.kind.EventKind.{EventKind}
 use Rattle.rr_text.specs.declared.kind.EventKind.TheVariants.{Submit, Hear, Suspect, Tick, Advance, Take, Device, Fail, Mark, Send, Ack, Snap, Crash, Restart}
 use Rattle.rr_text.specs.Words.{spaced, value_words, op_words, set_text, fill_text, IsOp, IsCommand, IsFill}
-use Rattle.rr_text.specs.Scheduled.{IsEvent}
-use Rattle.rr_text.specs.ScheduleTexts.{event_text, event_line}
-use Rattle.rr_text.specs.Reading.{◌>>=◌, cut_at, node_at, small_at, set_at, fill_at, submitted_at, keyword_text, keyword_at, first_node_at, cuts_at, fields_at, event_at}
+use Rattle.rr_text.specs.Scheduled.{IsInRange, IsEvent}
+use Rattle.rr_text.specs.ScheduleTexts.{field_words, event_text, event_line}
+use Rattle.rr_text.specs.Reading.{◌>>=◌, cut_at, node_at, small_at, set_at, fill_at, submitted_at, keyword_text, keyword_at, first_node_at, cuts_at, plain_at, about_at, said_at, fields_at, event_at}
+use Rattle.rr_text.specs.Events.{event_of, kind_at_node, kind_of}
 use Rattle.rr_text.proofs.CutLemmas.{AtLeast, AtLeast-append, bind_some, cut_again, cut_takes, plain_by_test}
 use Rattle.rr_text.proofs.NumberLemmas.{node_again, node_takes, small_again, small_takes, decimal_plain}
 use Rattle.rr_text.proofs.WordReading.{AtLeast-weaken, name_plain, value_plain, set_again, set_takes, set_plain, fill_again, fill_takes, fill_plain}
@@ -97,37 +103,58 @@ cuts_takes text c e =
     let is : cuts_text made ≡ text = ap (λ (y : List ℕ). y ++ 32 ∷ (decimal b.0 ++ 32 ∷ fill_text f.0)) ta.0 ∙ ap (λ (y : List ℕ). v.0.0 ++ 32 ∷ y) inner ∙ sym cut_1 in
     subst (λ (d : ℕ × ℕ × List ℕ). (cuts_text d ≡ text) × AreCuts d) (same_Some made c f.2) (is, (ta.1, tb.1, tf.1))
 
+-- ---- reading gives what is printed
+
 -- an event was read from the words behind its keyword
 pub record Was (n : ℕ) (k : EventKind) (text : List ℕ) (e : Event) : Type 0 where
   pub printed : event_text e ≡ keyword_text k ++ 32 ∷ text
   pub fits : IsEvent n e
 
--- an event that has a node alone
-alone : (n : ℕ) (k : EventKind) (text : List ℕ) (make : ℕ → Event) (e : Event) → n ≤ 7 → ((p : ℕ) → event_text (make p) ≡ keyword_text k ++ 32 ∷ decimal p) → ((p : ℕ) → p < n → IsEvent n (make p)) → (node_at n text >>= λ p. Some (make p)) ≡ Some e → Was n k text e
-alone n k text make e few prints fits given =
-    let p = bind_some (node_at n text) (λ p. Some (make p)) e given in
+-- an event of a node is of this kind, and has no words beside the node's
+abbrev IsPlain : EventKind → NodeEvent ℕ → Type 0
+IsPlain k event = (kind_at_node event ≡ k) × (field_words (happening.At event) ≡ []) × ((n : ℕ) → IsInRange n (happening.At event))
+
+plain_is : (k : EventKind) → IfSome (plain_at k) (λ event. IsPlain k event)
+plain_is Submit = tt
+plain_is Hear = tt
+plain_is Suspect = tt
+plain_is Fail = tt
+plain_is Crash = tt
+plain_is k = (refl, refl, λ n. tt)
+
+-- such an event has a node alone
+alone : (n : ℕ) (k : EventKind) (text : List ℕ) (event : NodeEvent ℕ) (e : Event) → n ≤ 7 → IsPlain k event → (node_at n text >>= λ p. Some (event_of p event)) ≡ Some e → Was n k text e
+alone n k text event e few plain given =
+    let p = bind_some (node_at n text) (λ p. Some (event_of p event)) e given in
     let t = node_takes n text p.0 few p.1 in
-    let is : make p.0 ≡ e = same_Some (make p.0) e p.2 in
+    let is : event_of p.0 event ≡ e = same_Some (event_of p.0 event) e p.2 in
+    let words = ap (λ (ws : List (List ℕ)). spaced (keyword_text (kind_at_node event) ∷ decimal p.0 ∷ ws)) plain.1 in
+    let kind = ap (λ (x : EventKind). keyword_text x ++ 32 ∷ decimal p.0) plain.0 in
     record {
-      printed = ap event_text (sym is) ∙ prints p.0 ∙ ap (λ (y : List ℕ). keyword_text k ++ 32 ∷ y) t.0;
-      fits = subst (λ (d : Event). IsEvent n d) is (fits p.0 t.1);
+      printed = ap event_text (sym is) ∙ words ∙ kind ∙ ap (λ (y : List ℕ). keyword_text k ++ 32 ∷ y) t.0;
+      fits = subst (λ (d : Event). IsEvent n d) is (record { node = t.1; fields = plain.2 n });
     }
 
--- an event with something behind its node
-beside : {A : Type 0} (n : ℕ) (k : EventKind) (text : List ℕ) (read : List ℕ → Option A) (print : A → List ℕ) (Fits : A → Type 0) (make : ℕ → A → Event) (e : Event) → n ≤ 7
+-- what happens is of this kind, and the text says what it is about
+record IsAbout (n : ℕ) (k : EventKind) (text : List ℕ) (what : Happening) : Type 0 where
+  kind : kind_of what ≡ k
+  words : (w : List ℕ) → spaced (w ∷ field_words what) ≡ w ++ 32 ∷ text
+  fits : IsInRange n what
+
+about : {A : Type 0} (n : ℕ) (k : EventKind) (text : List ℕ) (read : List ℕ → Option A) (print : A → List ℕ) (Fits : A → Type 0) (make : A → Happening) (what : Happening)
     → ((t : List ℕ) (x : A) → read t ≡ Some x → (print x ≡ t) × Fits x)
-    → ((p : ℕ) (x : A) → event_text (make p x) ≡ keyword_text k ++ 32 ∷ (decimal p ++ 32 ∷ print x))
-    → ((p : ℕ) (x : A) → p < n → Fits x → IsEvent n (make p x))
-    → (first_node_at n text >>= λ p. read p.1 >>= λ x. Some (make p.0 x)) ≡ Some e → Was n k text e
-beside n k text read print Fits make e few takes prints fits given =
-    let p = bind_some (first_node_at n text) (λ p. read p.1 >>= λ x. Some (make p.0 x)) e given in
-    let x = bind_some (read p.0.1) (λ x. Some (make p.0.0 x)) e p.2 in
-    let t = first_node_takes n text p.0 few p.1 in
-    let u = takes p.0.1 x.0 x.1 in
-    let is : make p.0.0 x.0 ≡ e = same_Some (make p.0.0 x.0) e x.2 in
+    → ((x : A) → kind_of (make x) ≡ k)
+    → ((x : A) (w : List ℕ) → spaced (w ∷ field_words (make x)) ≡ w ++ 32 ∷ print x)
+    → ((x : A) → Fits x → IsInRange n (make x))
+    → (read text >>= λ x. Some (make x)) ≡ Some what → IsAbout n k text what
+about n k text read print Fits make what takes kinds prints fits given =
+    let x = bind_some (read text) (λ x. Some (make x)) what given in
+    let t = takes text x.0 x.1 in
+    let is : make x.0 ≡ what = same_Some (make x.0) what x.2 in
     record {
-      printed = ap event_text (sym is) ∙ prints p.0.0 x.0 ∙ ap (λ (y : List ℕ). keyword_text k ++ 32 ∷ (decimal p.0.0 ++ 32 ∷ y)) u.0 ∙ ap (λ (y : List ℕ). keyword_text k ++ 32 ∷ y) t.0;
-      fits = subst (λ (d : Event). IsEvent n d) is (fits p.0.0 x.0 t.1 u.1);
+      kind = ap kind_of (sym is) ∙ kinds x.0;
+      words = λ w. ap (λ (d : Happening). spaced (w ∷ field_words d)) (sym is) ∙ prints x.0 w ∙ ap (λ (y : List ℕ). w ++ 32 ∷ y) t.0;
+      fits = subst (λ (d : Happening). IsInRange n d) is (fits x.0 t.1);
     }
 
 pub spaced_op : (w : List ℕ) (op : Op) → spaced (w ∷ op_words op) ≡ w ++ 32 ∷ spaced (op_words op)
@@ -136,24 +163,39 @@ spaced_op w (ops.Update x v) = refl
 spaced_op w (ops.Release x) = refl
 spaced_op w (ops.Transfer x o) = refl
 
-pub submit_text : (p : ℕ) (c : Command) → event_text (events.Submit p c) ≡ codes "submit " ++ (decimal p ++ 32 ∷ submitted_text c)
-submit_text p c = ap (λ (y : List ℕ). codes "submit " ++ (decimal p ++ 32 ∷ (decimal c.request.client ++ 32 ∷ y))) (spaced_op (decimal c.request.seq) c.op)
+submit_words : (c : Command) (w : List ℕ) → spaced (w ∷ field_words (happening.At (node.Told (input.Submit c)))) ≡ w ++ 32 ∷ submitted_text c
+submit_words c w = ap (λ (y : List ℕ). w ++ 32 ∷ (decimal c.request.client ++ 32 ∷ y)) (spaced_op (decimal c.request.seq) c.op)
+
+about_takes : (n : ℕ) (k : EventKind) (text : List ℕ) (what : Happening) → about_at n k text ≡ Some what → IsAbout n k text what
+about_takes n Submit text what given = about n Submit text submitted_at submitted_text IsCommand (λ c. happening.At (node.Told (input.Submit c))) what submitted_takes (λ c. refl) submit_words (λ c h. h) given
+about_takes n Hear text what given = about n Hear text small_at decimal (λ k. k < 2 ^ 32) (λ k. happening.At (node.Told (input.Hear k))) what small_takes (λ k. refl) (λ k w. refl) (λ k h. h) given
+about_takes n Suspect text what given = about n Suspect text (set_at n) set_text (λ s. s < 2 ^ n) (λ s. happening.At (node.Told (input.Suspect s))) what (set_takes n) (λ s. refl) (λ s w. refl) (λ s h. h) given
+about_takes n Fail text what given = about n Fail text fill_at fill_text IsFill (λ f. happening.Fail f) what fill_takes (λ f. refl) (λ f w. refl) (λ f h. h) given
+about_takes n Crash text what given = about n Crash text cuts_at cuts_text AreCuts (λ c. happening.Crash c.0 c.1 c.2) what cuts_takes (λ c. refl) (λ c w. refl) (λ c h. h) given
+about_takes n k text what given = absurd (cc)
+
+-- an event with something behind its node
+beside : (n : ℕ) (k : EventKind) (text : List ℕ) (e : Event) → n ≤ 7 → (first_node_at n text >>= λ p. about_at n k p.1 >>= λ what. Some (record { node = p.0; what = what })) ≡ Some e → Was n k text e
+beside n k text e few given =
+    let make : ℕ → Happening → Event = λ p what. record { node = p; what = what } in
+    let p = bind_some (first_node_at n text) (λ p. about_at n k p.1 >>= λ what. Some (make p.0 what)) e given in
+    let x = bind_some (about_at n k p.0.1) (λ what. Some (make p.0.0 what)) e p.2 in
+    let t = first_node_takes n text p.0 few p.1 in
+    let u = about_takes n k p.0.1 x.0 x.1 in
+    let is : make p.0.0 x.0 ≡ e = same_Some (make p.0.0 x.0) e x.2 in
+    let words = ap (λ (y : List ℕ). keyword_text (kind_of x.0) ++ 32 ∷ y) (u.words (decimal p.0.0)) in
+    let kind = ap (λ (y : EventKind). keyword_text y ++ 32 ∷ (decimal p.0.0 ++ 32 ∷ p.0.1)) u.kind in
+    record {
+      printed = ap event_text (sym is) ∙ words ∙ kind ∙ ap (λ (y : List ℕ). keyword_text k ++ 32 ∷ y) t.0;
+      fits = subst (λ (d : Event). IsEvent n d) is (record { node = t.1; fields = u.fits });
+    }
+
+said_takes : (n : ℕ) (k : EventKind) (o : Option (NodeEvent ℕ)) (text : List ℕ) (e : Event) → n ≤ 7 → IfSome o (λ event. IsPlain k event) → said_at n k o text ≡ Some e → Was n k text e
+said_takes n k (Some event) text e few plain given = alone n k text event e few plain given
+said_takes n k None text e few plain given = beside n k text e few given
 
 pub fields_takes : (n : ℕ) (k : EventKind) (text : List ℕ) (e : Event) → n ≤ 7 → fields_at n k text ≡ Some e → Was n k text e
-fields_takes n Submit text e few given = beside n Submit text submitted_at submitted_text IsCommand (λ p c. events.Submit p c) e few submitted_takes submit_text (λ p c lt h. record { node = lt; fields = h }) given
-fields_takes n Hear text e few given = beside n Hear text small_at decimal (λ k. k < 2 ^ 32) (λ p k. events.Hear p k) e few small_takes (λ p k. refl) (λ p k lt h. record { node = lt; fields = h }) given
-fields_takes n Suspect text e few given = beside n Suspect text (set_at n) set_text (λ s. s < 2 ^ n) (λ p s. events.Suspect p s) e few (set_takes n) (λ p s. refl) (λ p s lt h. record { node = lt; fields = h }) given
-fields_takes n Tick text e few given = alone n Tick text (λ p. events.Tick p) e few (λ p. refl) (λ p lt. record { node = lt; fields = tt }) given
-fields_takes n Advance text e few given = alone n Advance text (λ p. events.Advance p) e few (λ p. refl) (λ p lt. record { node = lt; fields = tt }) given
-fields_takes n Take text e few given = alone n Take text (λ p. events.Take p) e few (λ p. refl) (λ p lt. record { node = lt; fields = tt }) given
-fields_takes n Device text e few given = alone n Device text (λ p. events.Device p) e few (λ p. refl) (λ p lt. record { node = lt; fields = tt }) given
-fields_takes n Fail text e few given = beside n Fail text fill_at fill_text IsFill (λ p f. events.Fail p f) e few fill_takes (λ p f. refl) (λ p f lt h. record { node = lt; fields = h }) given
-fields_takes n Mark text e few given = alone n Mark text (λ p. events.Mark p) e few (λ p. refl) (λ p lt. record { node = lt; fields = tt }) given
-fields_takes n Send text e few given = alone n Send text (λ p. events.Send p) e few (λ p. refl) (λ p lt. record { node = lt; fields = tt }) given
-fields_takes n Ack text e few given = alone n Ack text (λ p. events.Ack p) e few (λ p. refl) (λ p lt. record { node = lt; fields = tt }) given
-fields_takes n Snap text e few given = alone n Snap text (λ p. events.Snap p) e few (λ p. refl) (λ p lt. record { node = lt; fields = tt }) given
-fields_takes n Crash text e few given = beside n Crash text cuts_at cuts_text AreCuts (λ p c. events.Crash p c.0 c.1 c.2) e few cuts_takes (λ p c. refl) (λ p c lt h. record { node = lt; fields = h }) given
-fields_takes n Restart text e few given = alone n Restart text (λ p. events.Restart p) e few (λ p. refl) (λ p lt. record { node = lt; fields = tt }) given
+fields_takes n k text e few given = said_takes n k (plain_at k) text e few (plain_is k) given
 
 -- what is read as an event is printed so
 pub event_takes : (n : ℕ) (text : List ℕ) (e : Event) → n ≤ 7 → event_at n text ≡ Some e → (event_text e ≡ text) × IsEvent n e
@@ -168,24 +210,7 @@ event_takes n text e few given =
 event_from : (n : ℕ) (k : EventKind) (text : List ℕ) (e : Event) → fields_at n k text ≡ Some e → event_at n (keyword_text k ++ 32 ∷ text) ≡ Some e
 event_from n k text e given = rw (cut_again 32 33 (keyword_text k) text (omega arith) (keyword_plain k), keyword_again k) given
 
--- an event that is printed is read again
-pub event_again : (n : ℕ) (e : Event) → n ≤ 7 → IsEvent n e → event_at n (event_text e) ≡ Some e
-event_again n (events.Submit p c) few h = ap (event_at n) (submit_text p c) ∙ (event_from n Submit (decimal p ++ 32 ∷ submitted_text c) (events.Submit p c) (rw (first_node_again n p (submitted_text c) few h.node, submitted_again c h.fields) refl))
-event_again n (events.Hear p k) few h = event_from n Hear (decimal p ++ 32 ∷ decimal k) (events.Hear p k) (rw (first_node_again n p (decimal k) few h.node, small_again k h.fields) refl)
-event_again n (events.Suspect p s) few h = event_from n Suspect (decimal p ++ 32 ∷ set_text s) (events.Suspect p s) (rw (first_node_again n p (set_text s) few h.node, set_again n s few h.fields) refl)
-event_again n (events.Tick p) few h = event_from n Tick (decimal p) (events.Tick p) (rw (node_again n p few h.node) refl)
-event_again n (events.Advance p) few h = event_from n Advance (decimal p) (events.Advance p) (rw (node_again n p few h.node) refl)
-event_again n (events.Take p) few h = event_from n Take (decimal p) (events.Take p) (rw (node_again n p few h.node) refl)
-event_again n (events.Device p) few h = event_from n Device (decimal p) (events.Device p) (rw (node_again n p few h.node) refl)
-event_again n (events.Fail p f) few h = event_from n Fail (decimal p ++ 32 ∷ fill_text f) (events.Fail p f) (rw (first_node_again n p (fill_text f) few h.node, fill_again f h.fields) refl)
-event_again n (events.Mark p) few h = event_from n Mark (decimal p) (events.Mark p) (rw (node_again n p few h.node) refl)
-event_again n (events.Send p) few h = event_from n Send (decimal p) (events.Send p) (rw (node_again n p few h.node) refl)
-event_again n (events.Ack p) few h = event_from n Ack (decimal p) (events.Ack p) (rw (node_again n p few h.node) refl)
-event_again n (events.Snap p) few h = event_from n Snap (decimal p) (events.Snap p) (rw (node_again n p few h.node) refl)
-event_again n (events.Crash p a b f) few h = event_from n Crash (decimal p ++ 32 ∷ (decimal a ++ 32 ∷ (decimal b ++ 32 ∷ fill_text f))) (events.Crash p a b f) (rw (first_node_again n p (decimal a ++ 32 ∷ (decimal b ++ 32 ∷ fill_text f)) few h.node, cuts_again a b f h.fields.0 h.fields.1 h.fields.2) refl)
-event_again n (events.Restart p) few h = event_from n Restart (decimal p) (events.Restart p) (rw (node_again n p few h.node) refl)
-
--- ---- no line feed
+-- ---- no byte of a text is below a space
 
 pub joined : (v w : List ℕ) → AtLeast 33 v → AtLeast 32 w → AtLeast 32 (v ++ 32 ∷ w)
 joined v w p q = AtLeast-append 32 v (32 ∷ w) (AtLeast-weaken 32 33 v (omega arith) p) (omega arith, q)
@@ -207,29 +232,55 @@ submitted_plain : (c : Command) → IsCommand c → AtLeast 32 (submitted_text c
 submitted_plain c h =
     joined (decimal c.request.client) (decimal c.request.seq ++ 32 ∷ spaced (op_words c.op)) (decimal_plain c.request.client (omega (arith, h.client))) (joined (decimal c.request.seq) (spaced (op_words c.op)) (decimal_plain c.request.seq h.seq) (op_plain c.op h.op))
 
-alone_plain : (n : ℕ) (k : EventKind) (p : ℕ) → n ≤ 7 → p < n → AtLeast 32 (keyword_text k ++ 32 ∷ decimal p)
-alone_plain n k p few lt = joined (keyword_text k) (decimal p) (keyword_plain k) (low (decimal p) (node_plain n p few lt))
+-- ---- what is printed is read again, and has no line feed
 
-beside_plain : (n : ℕ) (k : EventKind) (p : ℕ) (w : List ℕ) → n ≤ 7 → p < n → AtLeast 32 w → AtLeast 32 (keyword_text k ++ 32 ∷ (decimal p ++ 32 ∷ w))
-beside_plain n k p w few lt h = joined (keyword_text k) (decimal p ++ 32 ∷ w) (keyword_plain k) (joined (decimal p) w (node_plain n p few lt) h)
+-- the text of an event is read again, and each of its bytes is a space or above
+pub record IsReadAgain (n : ℕ) (e : Event) : Type 0 where
+  pub again : event_at n (event_text e) ≡ Some e
+  pub plain : AtLeast 32 (event_text e)
+
+-- the text of an event is its keyword and what is behind it
+from_text : (n : ℕ) (k : EventKind) (text : List ℕ) (e : Event) → event_text e ≡ keyword_text k ++ 32 ∷ text → fields_at n k text ≡ Some e → AtLeast 32 text → IsReadAgain n e
+from_text n k text e is given plain = record {
+  again = ap (event_at n) is ∙ event_from n k text e given;
+  plain = subst (λ (w : List ℕ). AtLeast 32 w) (sym is) (joined (keyword_text k) text (keyword_plain k) plain);
+}
+
+alone_again : (n p : ℕ) (event : NodeEvent ℕ) → n ≤ 7 → p < n → plain_at (kind_at_node event) ≡ Some event → field_words (happening.At event) ≡ [] → IsReadAgain n (event_of p event)
+alone_again n p event few lt plain none = from_text n (kind_at_node event) (decimal p) (event_of p event)
+    (ap (λ (ws : List (List ℕ)). spaced (keyword_text (kind_at_node event) ∷ decimal p ∷ ws)) none)
+    (ap (λ (o : Option (NodeEvent ℕ)). said_at n (kind_at_node event) o (decimal p)) plain ∙ (rw (node_again n p few lt) refl)) (low (decimal p) (node_plain n p few lt))
+
+beside_again : (n p : ℕ) (what : Happening) (text : List ℕ) → n ≤ 7 → p < n → plain_at (kind_of what) ≡ None → ((w : List ℕ) → spaced (w ∷ field_words what) ≡ w ++ 32 ∷ text)
+    → about_at n (kind_of what) text ≡ Some what → AtLeast 32 text → IsReadAgain n (record { node = p; what = what })
+beside_again n p what text few lt more words given plain = from_text n (kind_of what) (decimal p ++ 32 ∷ text) (record { node = p; what = what })
+    (ap (λ (y : List ℕ). keyword_text (kind_of what) ++ 32 ∷ y) (words (decimal p)))
+    (ap (λ (o : Option (NodeEvent ℕ)). said_at n (kind_of what) o (decimal p ++ 32 ∷ text)) more ∙ (rw (first_node_again n p text few lt, given) refl))
+    (joined (decimal p) text (node_plain n p few lt) plain)
+
+what_again : (n p : ℕ) (what : Happening) → n ≤ 7 → p < n → IsInRange n what → IsReadAgain n (record { node = p; what = what })
+what_again n p (happening.At (node.Told (input.Submit c))) few lt h =
+    beside_again n p (happening.At (node.Told (input.Submit c))) (submitted_text c) few lt refl (submit_words c) (rw (submitted_again c h) refl) (submitted_plain c h)
+what_again n p (happening.At (node.Told (input.Hear k))) few lt h =
+    beside_again n p (happening.At (node.Told (input.Hear k))) (decimal k) few lt refl (λ w. refl) (rw (small_again k h) refl) (low (decimal k) (decimal_plain k (omega (arith, h))))
+what_again n p (happening.At (node.Told (input.Suspect s))) few lt h =
+    beside_again n p (happening.At (node.Told (input.Suspect s))) (set_text s) few lt refl (λ w. refl) (rw (set_again n s few h) refl) (low (set_text s) (set_plain s))
+what_again n p (happening.At event) few lt h = alone_again n p event few lt refl refl
+what_again n p (happening.Fail f) few lt h = beside_again n p (happening.Fail f) (fill_text f) few lt refl (λ w. refl) (rw (fill_again f h) refl) (low (fill_text f) (fill_plain f h))
+what_again n p (happening.Crash a b f) few lt h =
+    beside_again n p (happening.Crash a b f) (cuts_text (a, b, f)) few lt refl (λ w. refl) (rw (cuts_again a b f h.0 h.1 h.2) refl)
+    (joined (decimal a) (decimal b ++ 32 ∷ fill_text f) (decimal_plain a (omega (arith, h.0))) (joined (decimal b) (fill_text f) (decimal_plain b (omega (arith, h.1))) (low (fill_text f) (fill_plain f h.2))))
+
+read_again : (n : ℕ) (e : Event) → n ≤ 7 → IsEvent n e → IsReadAgain n e
+read_again n e few h = what_again n e.node e.what few h.node h.fields
+
+-- an event that is printed is read again
+pub event_again : (n : ℕ) (e : Event) → n ≤ 7 → IsEvent n e → event_at n (event_text e) ≡ Some e
+event_again n e few h = (read_again n e few h).again
 
 -- the text of an event has no line feed
 pub event_plain : (n : ℕ) (e : Event) → n ≤ 7 → IsEvent n e → AtLeast 32 (event_text e)
-event_plain n (events.Submit p c) few h = subst (λ (w : List ℕ). AtLeast 32 w) (sym (submit_text p c)) (beside_plain n Submit p (submitted_text c) few h.node (submitted_plain c h.fields))
-event_plain n (events.Hear p k) few h = beside_plain n Hear p (decimal k) few h.node (low (decimal k) (decimal_plain k (omega (arith, h.fields))))
-event_plain n (events.Suspect p s) few h = beside_plain n Suspect p (set_text s) few h.node (low (set_text s) (set_plain s))
-event_plain n (events.Tick p) few h = alone_plain n Tick p few h.node
-event_plain n (events.Advance p) few h = alone_plain n Advance p few h.node
-event_plain n (events.Take p) few h = alone_plain n Take p few h.node
-event_plain n (events.Device p) few h = alone_plain n Device p few h.node
-event_plain n (events.Fail p f) few h = beside_plain n Fail p (fill_text f) few h.node (low (fill_text f) (fill_plain f h.fields))
-event_plain n (events.Mark p) few h = alone_plain n Mark p few h.node
-event_plain n (events.Send p) few h = alone_plain n Send p few h.node
-event_plain n (events.Ack p) few h = alone_plain n Ack p few h.node
-event_plain n (events.Snap p) few h = alone_plain n Snap p few h.node
-event_plain n (events.Crash p a b f) few h =
-    beside_plain n Crash p (decimal a ++ 32 ∷ (decimal b ++ 32 ∷ fill_text f)) few h.node (joined (decimal a) (decimal b ++ 32 ∷ fill_text f) (decimal_plain a (omega (arith, h.fields.0))) (joined (decimal b) (fill_text f) (decimal_plain b (omega (arith, h.fields.1))) (low (fill_text f) (fill_plain f h.fields.2))))
-event_plain n (events.Restart p) few h = alone_plain n Restart p few h.node
+event_plain n e few h = (read_again n e few h).plain
 
 -- the line of an event is cut where it ends
 pub line_again : (n : ℕ) (e : Event) (more : List ℕ) → n ≤ 7 → IsEvent n e → cut_at 10 (event_line e ++ more) ≡ Some (event_text e, more)

@@ -1,17 +1,19 @@
 -- Schedules: what is read is printed so, and what is printed is read again.
-use Rattle.std.proofs.Common.{◌≡◌, ℕ, ◌+◌, ◌<◌, ◌≤◌, decimal, arith, List, ◌∷◌, [], ◌++◌, Some, None, Result, Ok, Err, MatchResult, ap, ◌∙◌, sym}
+use Rattle.std.proofs.Common.{◌≡◌, ℕ, ◌+◌, ◌<◌, ◌≤◌, decimal, arith, List, ◌∷◌, [], ◌++◌, Option, Some, None, Result, Ok, Err, MatchResult, ap, ◌∙◌, sym}
 use Rattle.std.specs.Prelude.{IfOk, IfErr}
+use Rattle.std.specs.Option.{option_map}
 use Rattle.std.proofs.lemmas.Fmt.{decimal_digit}
 use Rattle.std.proofs.lemmas.List.{append_assoc}
 use Rattle.rr_types.specs.declared.refusal.Refusal.{Refusal}
 use Rattle.rr_types.specs.declared.refusal.Refusal.TheVariants.{OutOfMemory}
+use Rattle.rr_types.specs.declared.event.NodeEvent.{NodeEvent}
 use Rattle.rr_text.specs.declared.event.Event.{Event}
 use Rattle.rr_text.specs.Lines.{HasNoLine, IsFault}
 use Rattle.rr_text.specs.Scheduled.{Scheduled, IsEvent, IsSchedule}
 use Rattle.rr_text.specs.ScheduleTexts.{event_text, event_line, schedule_text}
 use Rattle.rr_text.specs.declared.kind.EventKind.{EventKind}
-use Rattle.rr_text.specs.declared.kind.EventKind.TheVariants.{Submit, Hear, Suspect, Tick, Advance, Take, Device, Fail, Mark, Send, Ack, Snap, Crash, Restart}
-use Rattle.rr_text.specs.Reading.{cut_at, keyword_text, plain_at, fields_at, event_at}
+use Rattle.rr_text.specs.Events.{event_of}
+use Rattle.rr_text.specs.Reading.{cut_at, keyword_text, plain_at, said_at, event_at}
 use Rattle.rr_text.proofs.CutLemmas.{cut_takes}
 use Rattle.rr_text.proofs.NumberLemmas.{node_again}
 use Rattle.rr_text.proofs.EventReading.{fields_takes, event_takes, event_again, line_again}
@@ -45,26 +47,14 @@ event_unread n bytes text rest few cut unread = line_unread (event_lines n few) 
 
 -- ---- a line that is matched whole
 
-alone_read : (n : ℕ) (k : EventKind) (p : ℕ) (e : Event) → n ≤ 7 → p < n → plain_at k p ≡ Some e → fields_at n k (decimal p) ≡ Some e
-alone_read n Submit p e few lt h = absurd cc
-alone_read n Hear p e few lt h = absurd cc
-alone_read n Suspect p e few lt h = absurd cc
-alone_read n Tick p e few lt h = rw (node_again n p few lt) h
-alone_read n Advance p e few lt h = rw (node_again n p few lt) h
-alone_read n Take p e few lt h = rw (node_again n p few lt) h
-alone_read n Device p e few lt h = rw (node_again n p few lt) h
-alone_read n Fail p e few lt h = absurd cc
-alone_read n Mark p e few lt h = rw (node_again n p few lt) h
-alone_read n Send p e few lt h = rw (node_again n p few lt) h
-alone_read n Ack p e few lt h = rw (node_again n p few lt) h
-alone_read n Snap p e few lt h = rw (node_again n p few lt) h
-alone_read n Crash p e few lt h = absurd cc
-alone_read n Restart p e few lt h = rw (node_again n p few lt) h
+alone_read : (n : ℕ) (k : EventKind) (o : Option (NodeEvent ℕ)) (p : ℕ) (e : Event) → n ≤ 7 → p < n → option_map (event_of p) o ≡ Some e → said_at n k o (decimal p) ≡ Some e
+alone_read n k (Some event) p e few lt h = rw (node_again n p few lt) h
+alone_read n k None p e few lt h = absurd (cc)
 
 -- a keyword, a space, a node's digit and a line feed are the line of the event
-pub plain_taken : (n : ℕ) (k : EventKind) (p d : ℕ) (e : Event) (bytes rest : List ℕ) → n ≤ 7 → p < n → d ≡ 48 + p → plain_at k p ≡ Some e → bytes ≡ keyword_text k ++ 32 ∷ d ∷ 10 ∷ rest → IsEvent n e × (bytes ≡ event_line e ++ rest)
+pub plain_taken : (n : ℕ) (k : EventKind) (p d : ℕ) (e : Event) (bytes rest : List ℕ) → n ≤ 7 → p < n → d ≡ 48 + p → option_map (event_of p) (plain_at k) ≡ Some e → bytes ≡ keyword_text k ++ 32 ∷ d ∷ 10 ∷ rest → IsEvent n e × (bytes ≡ event_line e ++ rest)
 plain_taken n k p d e bytes rest few lt digit read is =
-    let was = fields_takes n k (decimal p) e few (alone_read n k p e few lt read) in
+    let was = fields_takes n k (decimal p) e few (alone_read n k (plain_at k) p e few lt read) in
     let one : decimal p ≡ d ∷ [] = decimal_digit p (omega arith) ∙ ap (λ (c : ℕ). c ∷ []) (sym digit) in
     let text : event_text e ≡ keyword_text k ++ 32 ∷ d ∷ [] = was.printed ∙ ap (λ (y : List ℕ). keyword_text k ++ 32 ∷ y) one in
     let line : event_line e ++ rest ≡ keyword_text k ++ 32 ∷ d ∷ 10 ∷ rest =

@@ -10,11 +10,16 @@ use Rattle.rr_types.specs.declared.command.OpKind.TheVariants.{Claim, Update, Re
 use Rattle.rr_types.specs.declared.command.Command.{Command}
 use Rattle.rr_types.specs.declared.message.MessageKind.{MessageKind}
 use Rattle.rr_types.specs.declared.message.MessageKind.TheVariants as messages
+use Rattle.rr_types.specs.declared.input.Input.TheVariants as input
+use Rattle.rr_types.specs.declared.event.NodeEvent.{NodeEvent}
+use Rattle.rr_types.specs.declared.event.NodeEvent.TheVariants as node
 use Rattle.rr_types.specs.Commands.{op_word}
 use Rattle.rr_types.specs.Messages.{message_word}
 use Rattle.rr_types.specs.Names.{is_name_byte, is_value_byte}
 use Rattle.rr_text.specs.declared.event.Event.{Event}
-use Rattle.rr_text.specs.declared.event.Event.TheVariants as events
+use Rattle.rr_text.specs.declared.event.Happening.{Happening}
+use Rattle.rr_text.specs.declared.event.Happening.TheVariants as happening
+use Rattle.rr_text.specs.Events.{event_of}
 use Rattle.rr_text.specs.declared.kind.EventKind.{EventKind}
 use Rattle.rr_text.specs.declared.kind.EventKind.TheVariants.{Submit, Hear, Suspect, Tick, Advance, Take, Device, Fail, Mark, Send, Ack, Snap, Crash, Restart}
 use Rattle.rr_text.specs.Numbers.{is_number}
@@ -97,7 +102,10 @@ op_kind_at w = find_by op_word w (Claim ∷ Update ∷ Release ∷ Transfer ∷ 
 
 -- the kind of messages that a word stands for
 abbrev pub message_kind_at : List ℕ → Option MessageKind
-message_kind_at w = find_by message_word w (messages.Estimate ∷ messages.Proposal ∷ messages.Ack ∷ messages.Decision ∷ messages.Request ∷ messages.Nack ∷ messages.Beat ∷ messages.Suspects ∷ messages.Ask ∷ [])
+message_kind_at w =
+    find_by message_word w
+    (messages.Estimate ∷ messages.Proposal ∷ messages.Ack ∷ messages.Decision ∷ messages.Request ∷ messages.Nack ∷ messages.Beat
+    ∷ messages.Suspects ∷ messages.Ask ∷ [])
 
 -- a name and a value, where both are there
 abbrev pub name_and_value : Option (List ℕ) → Option (List ℕ) → Option (List ℕ × List ℕ)
@@ -172,39 +180,36 @@ cuts_at text =
     fill_at b.1 >>= λ fill.
     Some (cut_0, cut_1, fill)
 
--- the event of this keyword at a node, where that is all that it says
-abbrev pub plain_at : EventKind → ℕ → Option Event
-plain_at Tick p = Some (events.Tick p)
-plain_at Advance p = Some (events.Advance p)
-plain_at Take p = Some (events.Take p)
-plain_at Device p = Some (events.Device p)
-plain_at Mark p = Some (events.Mark p)
-plain_at Send p = Some (events.Send p)
-plain_at Ack p = Some (events.Ack p)
-plain_at Snap p = Some (events.Snap p)
-plain_at Restart p = Some (events.Restart p)
-plain_at _ p = None
+-- the event of a node that a keyword means, where a line of it has nothing but the node
+abbrev pub plain_at : EventKind → Option (NodeEvent ℕ)
+plain_at Tick = Some (node.Told input.Tick)
+plain_at Advance = Some (node.Told input.Advance)
+plain_at Take = Some node.Take
+plain_at Device = Some node.Device
+plain_at Mark = Some node.Mark
+plain_at Send = Some node.Send
+plain_at Ack = Some node.Acknowledge
+plain_at Snap = Some node.Snap
+plain_at Restart = Some node.Restart
+plain_at _ = None
 
--- an event of this keyword that says nothing but its node, among n nodes
-abbrev pub node_alone_at : ℕ → EventKind → List ℕ → Option Event
-node_alone_at n k text = node_at n text >>= plain_at k
+-- what happens by a line of any other keyword, whose text behind the node this is, among n nodes
+abbrev pub about_at : ℕ → EventKind → List ℕ → Option Happening
+about_at n Submit text = submitted_at text >>= λ c. Some (happening.At (node.Told (input.Submit c)))
+about_at n Hear text = small_at text >>= λ k. Some (happening.At (node.Told (input.Hear k)))
+about_at n Suspect text = set_at n text >>= λ s. Some (happening.At (node.Told (input.Suspect s)))
+about_at n Fail text = fill_at text >>= λ f. Some (happening.Fail f)
+about_at n Crash text = cuts_at text >>= λ c. Some (happening.Crash c.0 c.1 c.2)
+about_at n _ text = None
+
+-- the event that the text behind a keyword says, among n nodes: a node alone, or a node and more
+abbrev pub said_at : ℕ → EventKind → Option (NodeEvent ℕ) → List ℕ → Option Event
+said_at n k (Some event) text = node_at n text >>= λ p. Some (event_of p event)
+said_at n k None text = first_node_at n text >>= λ p. about_at n k p.1 >>= λ what. Some (record { node = p.0; what = what })
 
 -- the event of this keyword among n nodes
 abbrev pub fields_at : ℕ → EventKind → List ℕ → Option Event
-fields_at n Submit text = first_node_at n text >>= λ p. submitted_at p.1 >>= λ c. Some (events.Submit p.0 c)
-fields_at n Hear text = first_node_at n text >>= λ p. small_at p.1 >>= λ k. Some (events.Hear p.0 k)
-fields_at n Suspect text = first_node_at n text >>= λ p. set_at n p.1 >>= λ s. Some (events.Suspect p.0 s)
-fields_at n Tick text = node_at n text >>= λ p. Some (events.Tick p)
-fields_at n Advance text = node_at n text >>= λ p. Some (events.Advance p)
-fields_at n Take text = node_at n text >>= λ p. Some (events.Take p)
-fields_at n Device text = node_at n text >>= λ p. Some (events.Device p)
-fields_at n Fail text = first_node_at n text >>= λ p. fill_at p.1 >>= λ f. Some (events.Fail p.0 f)
-fields_at n Mark text = node_at n text >>= λ p. Some (events.Mark p)
-fields_at n Send text = node_at n text >>= λ p. Some (events.Send p)
-fields_at n Ack text = node_at n text >>= λ p. Some (events.Ack p)
-fields_at n Snap text = node_at n text >>= λ p. Some (events.Snap p)
-fields_at n Crash text = first_node_at n text >>= λ p. cuts_at p.1 >>= λ c. Some (events.Crash p.0 c.0 c.1 c.2)
-fields_at n Restart text = node_at n text >>= λ p. Some (events.Restart p)
+fields_at n k text = said_at n k (plain_at k) text
 
 -- an event among n nodes
 abbrev pub event_at : ℕ → List ℕ → Option Event

@@ -1,28 +1,35 @@
 -- The text of a schedule.
-use Rattle.std.specs.Prelude.{ℕ, List, [], ◌∷◌, ◌++◌, codes, decimal}
+use Rattle.std.specs.Prelude.{ℕ, List, [], ◌∷◌, ◌++◌, decimal}
 use Rattle.std.specs.List.{flat_map}
+use Rattle.rr_types.specs.declared.input.Input.{Input}
+use Rattle.rr_types.specs.declared.input.Input.TheVariants.{Submit, Hear, Suspect}
+use Rattle.rr_types.specs.declared.event.NodeEvent.TheVariants.{Told}
 use Rattle.rr_text.specs.declared.event.Event.{Event}
-use Rattle.rr_text.specs.declared.event.Event.TheVariants.{Submit, Hear, Suspect, Tick, Advance, Take, Device, Fail, Mark, Send, Ack, Snap, Crash, Restart}
+use Rattle.rr_text.specs.declared.event.Happening.{Happening}
+use Rattle.rr_text.specs.declared.event.Happening.TheVariants.{At, Fail, Crash}
+use Rattle.rr_text.specs.Events.{kind_of}
 use Rattle.rr_text.specs.Words.{spaced, op_words, set_text, fill_text}
 use Rattle.rr_text.specs.Lines.{nodes_line}
+use Rattle.rr_text.specs.Reading.{keyword_text}
 use Rattle.rr_text.specs.Scheduled.{Scheduled}
+
+-- what a node is told, as words
+abbrev pub input_words : Input ℕ → List (List ℕ)
+input_words (Submit c) = decimal c.request.client ∷ decimal c.request.seq ∷ op_words c.op
+input_words (Hear k) = decimal k ∷ []
+input_words (Suspect s) = set_text s ∷ []
+input_words _ = []
+
+-- what an event is about beside its node, as words
+abbrev pub field_words : Happening → List (List ℕ)
+field_words (At (Told input)) = input_words input
+field_words (At event) = []
+field_words (Fail f) = fill_text f ∷ []
+field_words (Crash a b f) = decimal a ∷ decimal b ∷ fill_text f ∷ []
 
 -- an event as words: what happens, at which node, and what it is about
 abbrev pub event_words : Event → List (List ℕ)
-event_words (Submit p c) = codes "submit" ∷ decimal p ∷ decimal c.request.client ∷ decimal c.request.seq ∷ op_words c.op
-event_words (Hear p k) = codes "hear" ∷ decimal p ∷ decimal k ∷ []
-event_words (Suspect p s) = codes "suspect" ∷ decimal p ∷ set_text s ∷ []
-event_words (Tick p) = codes "tick" ∷ decimal p ∷ []
-event_words (Advance p) = codes "advance" ∷ decimal p ∷ []
-event_words (Take p) = codes "take" ∷ decimal p ∷ []
-event_words (Device p) = codes "dev" ∷ decimal p ∷ []
-event_words (Fail p f) = codes "fail" ∷ decimal p ∷ fill_text f ∷ []
-event_words (Mark p) = codes "mark" ∷ decimal p ∷ []
-event_words (Send p) = codes "send" ∷ decimal p ∷ []
-event_words (Ack p) = codes "ack" ∷ decimal p ∷ []
-event_words (Snap p) = codes "snap" ∷ decimal p ∷ []
-event_words (Crash p a b f) = codes "crash" ∷ decimal p ∷ decimal a ∷ decimal b ∷ fill_text f ∷ []
-event_words (Restart p) = codes "restart" ∷ decimal p ∷ []
+event_words e = keyword_text (kind_of e.what) ∷ decimal e.node ∷ field_words e.what
 
 -- the text of an event: its words, divided by one space
 abbrev pub event_text : Event → List ℕ

@@ -1,8 +1,10 @@
 //! The events of a schedule.
 
 ghost use Rattle.std.specs.Prelude.{◌≡◌};
+ghost use Rattle.rr_text.specs.Events.{event_of, told_at, kind_of, kind_at_node, kind_of_input};
 
-use rr_types::{Command, NodeId, NodeSet};
+use crate::kind::EventKind;
+use rr_types::{Input, NodeEvent, NodeId};
 use std::marker::Model;
 
 /// What a crash or a failed write leaves in places that no sync covers: these bytes in turn, repeated.
@@ -37,71 +39,87 @@ impl Fill {
     }
 }
 
-/// An event of a schedule, at one node.
+/// An event of a schedule: what happens at which node.
 #[derive(Debug, Drop)]
-pub enum Event {
-    /// A client asks the node for a command.
-    Submit {
-        node: NodeId,
-        command: Command,
-    },
-    /// The node hears a message: its number on the wire, from 0.
-    Hear {
-        node: NodeId,
-        message: u32,
-    },
-    /// The node's suspects become these.
-    Suspect {
-        node: NodeId,
-        set: NodeSet,
-    },
-    /// The node's heartbeat detector ticks.
-    Tick {
-        node: NodeId,
-    },
-    /// The node's lowest open instance with a round enters the next one.
-    Advance {
-        node: NodeId,
-    },
-    /// The node begins to flush a group of facts.
-    Take {
-        node: NodeId,
-    },
-    /// The next device call of the node's opening or job.
-    Device {
-        node: NodeId,
-    },
-    /// The same call, failing: a write leaves the fill in its range.
-    Fail {
-        node: NodeId,
-        fill: Fill,
-    },
-    /// The node marks its synced group.
-    Mark {
-        node: NodeId,
-    },
-    /// The node puts a message on the wire.
-    Send {
-        node: NodeId,
-    },
-    /// The node acknowledges a request.
-    Ack {
-        node: NodeId,
-    },
-    /// The node begins to switch to a snapshot.
-    Snap {
-        node: NodeId,
-    },
+pub struct Event {
+    pub node: NodeId,
+    pub what: Happening,
+}
+
+/// What happens at a node by an event of a schedule.
+#[derive(Debug, Drop)]
+pub enum Happening {
+    /// An event of the node. It hears a message by the message's number on the wire, from 0.
+    At(NodeEvent<u32>),
+    /// The next device call of the node's opening or job fails: a write leaves the fill in its range.
+    Fail(Fill),
     /// The node crashes: area 0 keeps `cut_0` bytes and area 1 `cut_1`, as far as their syncs leave the
     /// choice, and loose places take the fill.
-    Crash {
-        node: NodeId,
-        cut_0: u32,
-        cut_1: u32,
-        fill: Fill,
-    },
-    /// The node begins to open.
-    Restart {
-        node: NodeId,
-    },
+    Crash { cut_0: u32, cut_1: u32, fill: Fill },
+}
+
+impl Event {
+    /// An event of a node.
+    #[inline(always)]
+    pub fn at(node: NodeId, event: NodeEvent<u32>) -> Event
+        ensures { result ≡ event_of node event }
+    {
+        Event {
+            node,
+            what: Happening::At(event),
+        }
+    }
+
+    /// A node is told this.
+    #[inline(always)]
+    pub fn told(node: NodeId, input: Input<u32>) -> Event
+        ensures { result ≡ told_at node input }
+    {
+        Event::at(node, NodeEvent::Told(input))
+    }
+}
+
+impl Happening {
+    /// Its kind.
+    #[inline]
+    pub fn kind(&self) -> EventKind
+        ensures { result ≡ kind_of self.now }
+    {
+        match self {
+            Happening::At(event) => kind_at_node(event),
+            Happening::Fail(_) => EventKind::Fail,
+            Happening::Crash { .. } => EventKind::Crash,
+        }
+    }
+}
+
+/// The kind of an event of a node.
+#[inline]
+fn kind_at_node(event: &NodeEvent<u32>) -> EventKind
+    ensures { result ≡ kind_at_node event.now }
+{
+    match event {
+        NodeEvent::Told(input) => kind_of_input(input),
+        NodeEvent::Take => EventKind::Take,
+        NodeEvent::Device => EventKind::Device,
+        NodeEvent::Mark => EventKind::Mark,
+        NodeEvent::Send => EventKind::Send,
+        NodeEvent::Acknowledge => EventKind::Ack,
+        NodeEvent::Snap => EventKind::Snap,
+        NodeEvent::Restart => EventKind::Restart,
+    }
+}
+
+/// The kind of what a node is told.
+#[inline]
+fn kind_of_input(input: &Input<u32>) -> EventKind
+    ensures { result ≡ kind_of_input input.now }
+{
+    match input {
+        Input::Submit(_) => EventKind::Submit,
+        Input::Hear(_) => EventKind::Hear,
+        Input::Suspect(_) => EventKind::Suspect,
+        Input::Tick => EventKind::Tick,
+        Input::Advance => EventKind::Advance,
+    }
 }

@@ -31,7 +31,7 @@ pub mod text_schedule;
 pub mod text_word;
 
 pub use command_laws::command_law;
-pub use event::{Event, Fill};
+pub use event::{Event, Fill, Happening};
 pub use kind::EventKind;
 pub use report::{BoundNames, Report, ReportLine};
 pub use schedule::{MAX_EVENTS, Schedule};

@@ -3,20 +3,22 @@
 //! An event is large, and each call that passes it on copies it. So the short way that most lines take is inlined. What
 //! few lines need stands apart, so that the others don't clear room for it.
 
-ghost use Rattle.std.specs.Prelude.{◌≡◌, ℕ, ◌⊎◌, ◌+◌, ◌<◌, ◌≤◌, ◌++◌, ◌∷◌, [], None, Some, MatchOption, MatchResult, IfSome, IfOk, IfErr, length};
+ghost use Rattle.std.specs.Prelude.{◌≡◌, ℕ, ◌⊎◌, ◌+◌, ◌<◌, ◌≤◌, ◌++◌, ◌∷◌, [], None, Some, MatchOption, MatchResult, IfSome, IsSome, IfOk, IfErr, length};
+ghost use Rattle.std.specs.Option.{option_map};
 ghost use Rattle.std.specs.List.{flat_map, AllByRecursion};
 ghost use Rattle.rr_text.specs.Scheduled.{Scheduled, IsEvent, IsSchedule};
 ghost use Rattle.rr_text.specs.Lines.{nodes_line, HasNoLine, ArePrinted, IsStop, IsFirstFault, IsFault};
 ghost use Rattle.rr_text.specs.ScheduleTexts.{event_line, schedule_text};
-ghost use Rattle.rr_text.specs.Reading.{keyword_text, node_alone_at, pairs_at, fill_at, first_node_at, cuts_at, plain_at, fields_at, event_at, nodes_at, count_at};
+ghost use Rattle.rr_text.specs.Events.{event_of};
+ghost use Rattle.rr_text.specs.Reading.{keyword_text, pairs_at, fill_at, first_node_at, cuts_at, plain_at, fields_at, event_at, nodes_at, count_at};
 
-use crate::event::{Event, Fill};
+use crate::event::{Event, Fill, Happening};
 use crate::kind::EventKind;
 use crate::schedule::{MAX_EVENTS, Schedule};
 use crate::text_read::{
     cut, cut_line, hex_byte, is_number, keyword, node, set, small_number, submitted,
 };
-use rr_types::{NodeId, Nodes, Refusal};
+use rr_types::{Input, NodeEvent, NodeId, Nodes, Refusal};
 use std::alloc::{AllocError, Global};
 
 fn pairs(alloc: Global, word: &[u8]) -> Result<Option<Vec<u8>>, AllocError>
@@ -76,7 +78,7 @@ fn submit(nodes: Nodes, text: &[u8]) -> Result<Option<Event>, AllocError>
     let Some(command) = submitted(rest) else {
         return Ok(None);
     };
-    Ok(Some(Event::Submit { node, command }))
+    Ok(Some(Event::told(node, Input::Submit(command))))
 }
 
 #[inline(always)]
@@ -89,7 +91,7 @@ fn hear(nodes: Nodes, text: &[u8]) -> Result<Option<Event>, AllocError>
     let Some(message) = small_number(rest) else {
         return Ok(None);
     };
-    Ok(Some(Event::Hear { node, message }))
+    Ok(Some(Event::told(node, Input::Hear(message))))
 }
 
 #[inline(never)]
@@ -102,31 +104,36 @@ fn suspect(nodes: Nodes, text: &[u8]) -> Result<Option<Event>, AllocError>
     let Some(set) = set(nodes, rest) else {
         return Ok(None);
     };
-    Ok(Some(Event::Suspect { node, set }))
+    Ok(Some(Event::told(node, Input::Suspect(set))))
 }
 
 // The event of this keyword at a node, where that is all that it says.
 #[inline(always)]
 fn plain(keyword: EventKind, node: NodeId) -> Option<Event>
-    ensures { result ≡ plain_at keyword node }
+    ensures { result ≡ option_map (event_of node) (plain_at keyword) }
 {
     match keyword {
-        EventKind::Tick => Some(Event::Tick { node }),
-        EventKind::Advance => Some(Event::Advance { node }),
-        EventKind::Take => Some(Event::Take { node }),
-        EventKind::Device => Some(Event::Device { node }),
-        EventKind::Mark => Some(Event::Mark { node }),
-        EventKind::Send => Some(Event::Send { node }),
-        EventKind::Ack => Some(Event::Ack { node }),
-        EventKind::Snap => Some(Event::Snap { node }),
-        EventKind::Restart => Some(Event::Restart { node }),
-        _ => None,
+        EventKind::Tick => Some(Event::told(node, Input::Tick)),
+        EventKind::Advance => Some(Event::told(node, Input::Advance)),
+        EventKind::Take => Some(Event::at(node, NodeEvent::Take)),
+        EventKind::Device => Some(Event::at(node, NodeEvent::Device)),
+        EventKind::Mark => Some(Event::at(node, NodeEvent::Mark)),
+        EventKind::Send => Some(Event::at(node, NodeEvent::Send)),
+        EventKind::Ack => Some(Event::at(node, NodeEvent::Acknowledge)),
+        EventKind::Snap => Some(Event::at(node, NodeEvent::Snap)),
+        EventKind::Restart => Some(Event::at(node, NodeEvent::Restart)),
+        EventKind::Submit
+        | EventKind::Hear
+        | EventKind::Suspect
+        | EventKind::Fail
+        | EventKind::Crash => None,
     }
 }
 
 #[inline(always)]
 fn at_node(nodes: Nodes, keyword: EventKind, text: &[u8]) -> Result<Option<Event>, AllocError>
-    ensures ok { IfOk result (λ e. e ≡ node_alone_at nodes keyword text.now) }
+    requires { IsSome (plain_at keyword) }
+    ensures ok { IfOk result (λ e. e ≡ fields_at nodes keyword text.now) }
 {
     match node(nodes, text) {
         Some(node) => Ok(plain(keyword, node)),
@@ -142,7 +149,10 @@ fn fail(alloc: Global, nodes: Nodes, text: &[u8]) -> Result<Option<Event>, Alloc
         return Ok(None);
     };
     match fill(alloc, rest)? {
-        Some(fill) => Ok(Some(Event::Fail { node, fill })),
+        Some(fill) => Ok(Some(Event {
+            node,
+            what: Happening::Fail(fill),
+        })),
         None => Ok(None),
     }
 }
@@ -176,11 +186,9 @@ fn crash(alloc: Global, nodes: Nodes, text: &[u8]) -> Result<Option<Event>, Allo
         return Ok(None);
     };
     match cuts(alloc, rest)? {
-        Some((cut_0, cut_1, fill)) => Ok(Some(Event::Crash {
+        Some((cut_0, cut_1, fill)) => Ok(Some(Event {
             node,
-            cut_0,
-            cut_1,
-            fill,
+            what: Happening::Crash { cut_0, cut_1, fill },
         })),
         None => Ok(None),
     }

@@ -7,13 +7,13 @@ ghost use Rattle.rr_text.specs.Lines.{nodes_line};
 ghost use Rattle.rr_text.specs.Reading.{keyword_text};
 ghost use Rattle.rr_text.specs.ScheduleTexts.{event_words, event_text, event_line, schedule_text};
 
-use crate::event::Event;
+use crate::event::{Event, Happening};
 use crate::kind::EventKind;
 use crate::schedule::Schedule;
 use crate::text_word::{
     push_byte, push_bytes, push_fill, push_number, push_number_word, push_op, push_set,
 };
-use rr_types::{Command, NodeId, Nodes};
+use rr_types::{Command, Input, NodeEvent, NodeId, Nodes};
 use std::alloc::{AllocError, Global};
 
 fn push_at_node(out: &mut Vec<u8>, kind: EventKind, node: NodeId) -> Result<(), AllocError>
@@ -35,43 +35,20 @@ fn push_submitted(out: &mut Vec<u8>, command: &Command) -> Result<(), AllocError
 pub fn push_event(out: &mut Vec<u8>, event: &Event) -> Result<(), AllocError>
     ensures ok { OnOk result (out.new.items ≡ out.old.items ++ event_text event.now) }
 {
-    match event {
-        Event::Submit { node, command } => {
-            push_at_node(out, EventKind::Submit, *node)?;
-            push_submitted(out, command)
-        }
-        Event::Hear { node, message } => {
-            push_at_node(out, EventKind::Hear, *node)?;
+    push_at_node(out, event.what.kind(), event.node)?;
+    match &event.what {
+        Happening::At(NodeEvent::Told(Input::Submit(command))) => push_submitted(out, command),
+        Happening::At(NodeEvent::Told(Input::Hear(message))) => {
             push_number_word(out, u64::from(*message))
         }
-        Event::Suspect { node, set } => {
-            push_at_node(out, EventKind::Suspect, *node)?;
-            push_set(out, *set)
-        }
-        Event::Tick { node } => push_at_node(out, EventKind::Tick, *node),
-        Event::Advance { node } => push_at_node(out, EventKind::Advance, *node),
-        Event::Take { node } => push_at_node(out, EventKind::Take, *node),
-        Event::Device { node } => push_at_node(out, EventKind::Device, *node),
-        Event::Fail { node, fill } => {
-            push_at_node(out, EventKind::Fail, *node)?;
-            push_fill(out, fill.as_bytes())
-        }
-        Event::Mark { node } => push_at_node(out, EventKind::Mark, *node),
-        Event::Send { node } => push_at_node(out, EventKind::Send, *node),
-        Event::Ack { node } => push_at_node(out, EventKind::Ack, *node),
-        Event::Snap { node } => push_at_node(out, EventKind::Snap, *node),
-        Event::Crash {
-            node,
-            cut_0,
-            cut_1,
-            fill,
-        } => {
-            push_at_node(out, EventKind::Crash, *node)?;
+        Happening::At(NodeEvent::Told(Input::Suspect(set))) => push_set(out, *set),
+        Happening::At(_) => Ok(()),
+        Happening::Fail(fill) => push_fill(out, fill.as_bytes()),
+        Happening::Crash { cut_0, cut_1, fill } => {
             push_number_word(out, u64::from(*cut_0))?;
             push_number_word(out, u64::from(*cut_1))?;
             push_fill(out, fill.as_bytes())
         }
-        Event::Restart { node } => push_at_node(out, EventKind::Restart, *node),
     }
 }
 

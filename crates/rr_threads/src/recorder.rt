@@ -6,7 +6,7 @@ ghost use Rattle.rr_types.specs.declared.input.Input.TheVariants as told;
 ghost use Rattle.rr_types.specs.declared.refusal.Refusal.TheVariants.{RoundsOut};
 ghost use Rattle.rr_model.specs.NodeState.{decided_prefix};
 ghost use Rattle.rr_model.specs.NodeStep.{node_step, refusal_of, next_leaving, message_left, group_taken, running_group, marked_running, next_acknowledged, acknowledged};
-ghost use Rattle.rr_locked.specs.Recorded.{IsNoMessage};
+ghost use Rattle.rr_types.specs.Inputs.{HearsNothing};
 ghost use Rattle.rr_threads.specs.Lacking.{may_lack};
 
 use rr_journal::Synced;
@@ -14,7 +14,7 @@ use rr_locked::{
     Locked, Recording, Sent, ack_on, hear_on, input_on, mark_on, send, send_on, take_on,
 };
 use rr_tape::Tape;
-use rr_types::{Group, Input, Nodes, Refusal, Reply, RequestNo};
+use rr_types::{Group, Input, Message, Nodes, Refusal, Reply, RequestNo};
 use std::alloc::Global;
 use std::sync::{Mutex, Wait};
 
@@ -78,8 +78,8 @@ fn may_lack(refusal: &Refusal) -> bool
 
 impl<'x, R: Wait> Scribe<'x, R> {
     /// The node is told this, which is no message.
-    pub fn tell(&self, locked: &mut Locked, input: &Input) -> Result<(), Refusal>
-        requires { IsNoMessage input.now }
+    pub fn tell(&self, locked: &mut Locked, input: &Input<Message>) -> Result<(), Refusal>
+        requires { HearsNothing input.now }
         ensures step { OnOk result ((locked.new ≡ node_step input.now locked.old) × (refusal_of input.now locked.old ≡ None)) }
         ensures rounds { IfErr result (λ e. e ≡ RoundsOut → (locked.new ≡ locked.old) × (refusal_of input.now locked.old ≡ Some RoundsOut)) }
     {

@@ -15,7 +15,7 @@ use rr_inbox::{Giver, Outlet, Port, ROOM, Taker, TrySendError};
 use rr_journal::Synced;
 use rr_locked::{Kept, Locked, Place, Sent, Turnstile, Unflushed};
 use rr_turn::{Bell, FlusherRung, Links, PublisherRung, Rung};
-use rr_types::{Command, Group, Input, NodeId, Refusal};
+use rr_types::{Command, Group, Input, Message, NodeId, Refusal};
 use rr_window::WindowName;
 use std::mem;
 use std::sync::Wait;
@@ -173,7 +173,7 @@ impl<'x, W: WindowName, T, R> Wires<'x, W, T, R> {
 impl<'x, W: WindowName, T: Turnstile, R: Wait + Clock> Links for Wires<'x, W, T, R> {
     ghost gives = { λ old call new. mail_gives old.ends.mail call new.ends.mail };
 
-    fn tell(&mut self, locked: &mut Locked, input: &Input) -> Result<(), Refusal> {
+    fn tell(&mut self, locked: &mut Locked, input: &Input<Message>) -> Result<(), Refusal> {
         self.scribe.tell(locked, input)
     }
 

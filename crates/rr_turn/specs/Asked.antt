@@ -5,6 +5,7 @@ use Rattle.rr_types.specs.declared.command.Command.{Command}
 use Rattle.rr_types.specs.declared.command.RequestNo.{RequestNo}
 use Rattle.rr_types.specs.declared.command.Reply.{Reply}
 use Rattle.rr_types.specs.declared.input.Input.{Input}
+use Rattle.rr_types.specs.declared.message.Message.{Message}
 use Rattle.rr_types.specs.declared.refusal.Refusal.{Refusal}
 use Rattle.rr_model.specs.NodeState.{NodeState}
 use Rattle.rr_journal.specs.Flushes.{Kept}
@@ -15,7 +16,7 @@ use Rattle.rr_locked.specs.declared.flusher.Unflushed.{Unflushed}
 pub data Call : Type 0 where
   -- on the node: it is told an input that is no message; it hears a message; it marks a group; it gives its staged facts as a group; its
   -- oldest message that may leave does; its oldest request that is decided stops waiting
-  tells : (node : NodeState) (input : Input) (answer : Result (Unit {0}) Refusal) → Call
+  tells : (node : NodeState) (input : Input Message) (answer : Result (Unit {0}) Refusal) → Call
   hears : (node : NodeState) (sent : Sent) → Call
   marks : (node : NodeState) (synced : Kept) → Call
   groups : (node : NodeState) (answer : Result (Option Grouped) Refusal) → Call

@@ -4,14 +4,14 @@ ghost use Rattle.std.specs.Prelude.{◌≡◌, [], Some, None, IfOk, IfErr, IfNo
 ghost use Rattle.rr_types.specs.declared.input.Input.TheVariants as told;
 ghost use Rattle.rr_types.specs.declared.refusal.Refusal.TheVariants.{RoundsOut};
 ghost use Rattle.rr_model.specs.NodeStep.{node_step, refusal_of, next_leaving, message_left, group_taken, running_group, marked_running};
-ghost use Rattle.rr_locked.specs.Recorded.{IsNoMessage};
+ghost use Rattle.rr_types.specs.Inputs.{HearsNothing};
 ghost use Rattle.std.specs.Duration.{as_nanos};
 ghost use Rattle.rr_turn.specs.Asked.{Call, reads_clock, rests, goes_on, tells, hears, marks, groups, leaves, puts, puts_late, rings, sees, takes, comes, hands, wakes_flusher, wakes_publisher, notices, counts, wants, refuses, passes};
 
 use crate::bells::{FlusherRung, PublisherRung, Rung};
 use rr_journal::Synced;
 use rr_locked::{Locked, Sent, Unflushed};
-use rr_types::{Command, Group, Input, NodeId, Refusal};
+use rr_types::{Command, Group, Input, Message, NodeId, Refusal};
 use std::time::Duration;
 
 /// What a node's thread has of the node and of others: the events that it has the node make, which may be recorded; the ends of inboxes
@@ -24,8 +24,8 @@ pub trait Links {
     ghost gives: { Self → Call → Self → Type 0 };
 
     /// The node is told this, which is no message.
-    fn tell(&mut self, locked: &mut Locked, input: &Input) -> Result<(), Refusal>
-        requires { IsNoMessage input.now }
+    fn tell(&mut self, locked: &mut Locked, input: &Input<Message>) -> Result<(), Refusal>
+        requires { HearsNothing input.now }
         ensures call { gives self.old (tells locked.old input.now result) self.new }
         ensures step { OnOk result ((locked.new ≡ node_step input.now locked.old) × (refusal_of input.now locked.old ≡ None)) }
         ensures rounds { IfErr result (λ e. e ≡ RoundsOut → (locked.new ≡ locked.old) × (refusal_of input.now locked.old ≡ Some RoundsOut)) };

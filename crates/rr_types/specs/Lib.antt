@@ -2,6 +2,7 @@ pub mod Commands
 pub mod Counts
 pub mod Facts
 pub mod Groups
+pub mod Inputs
 pub mod Kept
 pub mod Limits
 pub mod Messages

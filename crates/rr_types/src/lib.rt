@@ -1,5 +1,5 @@
 //! The vocabulary of a replicated name registry: nodes, rounds and instances, names and values,
-//! bindings, commands and replies, facts, promises, messages and inputs, and the refusals of every call.
+//! bindings, commands and replies, facts, promises, messages, inputs and events, and the refusals of every call.
 //!
 //! Each type keeps its range: a `Round` is always a number from 1 to 2,147,483,647. Contracts
 //! see numbers as numbers, names and values as lists of bytes, and the rest as the record or the variant.
@@ -23,6 +23,7 @@
 
 mod binding;
 mod command;
+mod event;
 mod fact;
 mod input;
 mod kept;
@@ -40,6 +41,7 @@ mod summary;
 
 pub use binding::Binding;
 pub use command::{Command, Op, OpKind, Reply, RequestNo};
+pub use event::NodeEvent;
 pub use fact::{Estimate, Fact, GROUP, Group};
 pub use input::Input;
 pub use kept::Kept;

@@ -74,14 +74,14 @@ pub data View : Type 0 where
   TapeExplanation : Form → Option Text → View
   TapeStatistics : Form → Option Text → View
 
--- what a command asks for: the report of the schedule in this file or else in standard input; or a view of its run; or the
--- areas of the disk in this folder; or a random schedule by these words; or the audit of the tape in this file or else in
--- standard input; or a run of this number of nodes in threads, over the folders in this folder, by the script in this file,
--- with its tape in this file or none, so many milliseconds between two ticks, and answers in this form; or a shell by these words; or a sweep of the schedule in this file or else in standard
--- input, with this seed, which only wrong words leave out; or the picture of the schedule in this file or else in standard
--- input, of the cut that these words write; or an opening of the disk in this folder as that of this node of so many, all of
--- which only wrong words leave out, and its areas then; or whether the folders in this folder agree; or the registry that they
--- have decided as a script, or else the decided list
+-- what a command asks for: the report of the schedule in this file or else in standard input; or a view of its run; or the areas
+-- of the disk in this folder; or a random schedule by these words; or the audit of the tape in this file or else in standard
+-- input; or a run of this number of nodes in threads, over the folders in this folder, by the script in this file, with its tape
+-- in this file or none, so many milliseconds between two ticks, and answers in this form; or a shell by these words; or a sweep
+-- of the schedule in this file or else in standard input, with this seed, which only wrong words leave out; or the picture of the
+-- schedule in this file or else in standard input, of the cut that these words write; or an opening of the disk in this folder as
+-- that of this node of so many, all of which only wrong words leave out, and its areas then; or whether the folders in this
+-- folder agree; or the registry that they have decided as a script, or else the decided list
 pub data Task : Type 0 where
   Simulate : Option Text → Task
   Viewing : View → Task

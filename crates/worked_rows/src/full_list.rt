@@ -2,10 +2,10 @@
 
 use rr_disk::{Area, Disk, MemDisk};
 use rr_frame::{Snapshot, encode_group, encode_snapshot, put_u8, put_u32};
-use rr_node::{Node, NodeEvent, Outcome};
+use rr_node::{Node, Outcome};
 use rr_types::{
-    Command, Fact, GROUP, Group, INSTANCES, Input, Instance, Message, Name, NodeId, Nodes, Op,
-    Promise, Refusal, RequestNo, Value, made_of,
+    Command, Fact, GROUP, Group, INSTANCES, Input, Instance, Message, Name, NodeEvent, NodeId,
+    Nodes, Op, Promise, Refusal, RequestNo, Value, made_of,
 };
 use std::alloc::Global;
 use std::io;

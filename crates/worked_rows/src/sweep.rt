@@ -2,7 +2,8 @@
 
 use crate::areas::areas_behind;
 use rr_sim::{Cluster, Event, Fill, Report, ReportLine, Schedule};
-use rr_types::{NodeId, Refusal};
+use rr_text::Happening;
+use rr_types::{NodeEvent, NodeId, Refusal};
 use std::alloc::Global;
 use std::io;
 
@@ -30,16 +31,18 @@ struct Crash<'a> {
 /// The events of a crash and of the restart behind it.
 fn ending(alloc: Global, node: NodeId, crash: Crash<'_>) -> Result<[Event; 5], Refusal> {
     Ok([
-        Event::Crash {
+        Event {
             node,
-            cut_0: crash.cut_0,
-            cut_1: crash.cut_1,
-            fill: Fill::new(Vec::from_slice(alloc, crash.fill)?),
+            what: Happening::Crash {
+                cut_0: crash.cut_0,
+                cut_1: crash.cut_1,
+                fill: Fill::new(Vec::from_slice(alloc, crash.fill)?),
+            },
         },
-        Event::Restart { node },
-        Event::Device { node },
-        Event::Device { node },
-        Event::Device { node },
+        Event::at(node, NodeEvent::Restart),
+        Event::at(node, NodeEvent::Device),
+        Event::at(node, NodeEvent::Device),
+        Event::at(node, NodeEvent::Device),
     ])
 }
 

@@ -1,8 +1,8 @@
 //! A node at each limit.
 
 use super::started::{claim, node_over, open, put_decided, put_head};
-use rr_node::{Node, NodeEvent, Outcome};
-use rr_types::{Input, Message, Op, Refusal, Reply, made_of};
+use rr_node::{Node, Outcome};
+use rr_types::{Input, Message, NodeEvent, Op, Refusal, Reply, made_of};
 use std::alloc::Global;
 use std::process::Abort;
 
@@ -66,7 +66,7 @@ fn assert_refused(
     rt: &impl Abort,
     alloc: Global,
     node: &mut Node,
-    event: NodeEvent,
+    event: NodeEvent<Message>,
     refusal: Refusal,
 ) {
     made_of!(Message, Op);
@@ -74,13 +74,19 @@ fn assert_refused(
 }
 
 /// The event is taken, and nothing comes of it.
-fn assert_quiet(rt: &impl Abort, alloc: Global, node: &mut Node, event: NodeEvent) {
+fn assert_quiet(rt: &impl Abort, alloc: Global, node: &mut Node, event: NodeEvent<Message>) {
     made_of!(Message, Op);
     assert!(rt; matches!(node.step(alloc, &event), Ok(Outcome::Quiet)));
 }
 
 /// What the node is told is refused so.
-fn assert_untold(rt: &impl Abort, alloc: Global, node: &mut Node, input: Input, refusal: Refusal) {
+fn assert_untold(
+    rt: &impl Abort,
+    alloc: Global,
+    node: &mut Node,
+    input: Input<Message>,
+    refusal: Refusal,
+) {
     assert_refused(rt, alloc, node, NodeEvent::Told(input), refusal);
 }
 

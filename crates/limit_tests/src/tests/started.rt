@@ -1,8 +1,10 @@
 //! Nodes over areas that are spelled by hand.
 
 use rr_disk::{Area, Disk, MemDisk};
-use rr_node::{Node, NodeEvent, Outcome};
-use rr_types::{Command, Message, Name, NodeId, Nodes, Op, Refusal, RequestNo, Value, made_of};
+use rr_node::{Node, Outcome};
+use rr_types::{
+    Command, Message, Name, NodeEvent, NodeId, Nodes, Op, Refusal, RequestNo, Value, made_of,
+};
 use std::alloc::Global;
 
 /// The device calls of an opening that finds an area.

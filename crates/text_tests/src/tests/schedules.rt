@@ -2,10 +2,10 @@ use super::event_texts::{
     assert_a_million_at_most, assert_each_byte, assert_each_cut, is_reprinted,
 };
 use super::expected::{assert_same, assert_that};
-use rr_text::{BoundNames, Event, Report, ReportLine, Schedule};
+use rr_text::{BoundNames, Event, Happening, Report, ReportLine, Schedule};
 use rr_types::{
-    Binding, Body, Command, Estimate, Instance, Message, Name, NodeId, NodeSet, Nodes, Op, Refusal,
-    Reply, RequestNo, Round, Value,
+    Binding, Body, Command, Estimate, Input, Instance, Message, Name, NodeEvent, NodeId, NodeSet,
+    Nodes, Op, Refusal, Reply, RequestNo, Round, Value,
 };
 use std::alloc::Global;
 use std::process::Abort;
@@ -121,7 +121,10 @@ fn a_text_that_is_cut_is_refused_or_printed(rt: HostRuntime) {
 /// Asserts that an event is that node 2 is asked for `7.1 claim a x`.
 fn assert_submitted(rt: &impl Abort, event: &Event) {
     match event {
-        Event::Submit { node, command } => {
+        Event {
+            node,
+            what: Happening::At(NodeEvent::Told(Input::Submit(command))),
+        } => {
             assert!(rt; node.index() == 2);
             assert!(rt; command.request == RequestNo { client: 7, seq: 1 });
             let claim = Op::Claim(name_of(rt, "a"), value_of(rt, "x"));
@@ -134,28 +137,26 @@ fn assert_submitted(rt: &impl Abort, event: &Event) {
 /// Asserts that an event is that node 1 hears the message with number 5.
 fn assert_heard(rt: &impl Abort, event: &Event) {
     match event {
-        Event::Hear { node, message } => assert!(rt; node.index() == 1 && *message == 5),
+        Event {
+            node,
+            what: Happening::At(NodeEvent::Told(Input::Hear(message))),
+        } => assert!(rt; node.index() == 1 && *message == 5),
         _ => rt.panic("another event"),
     }
 }
 
 /// Asserts that an event is that nodes 1 and 2 are suspected.
 fn assert_suspected(rt: &impl Abort, event: &Event) {
-    match event {
-        Event::Suspect { set, .. } => assert!(rt; set.bits() == 6),
+    match &event.what {
+        Happening::At(NodeEvent::Told(Input::Suspect(set))) => assert!(rt; set.bits() == 6),
         _ => rt.panic("another event"),
     }
 }
 
 /// Asserts that an event is a crash with these cuts and this fill.
 fn assert_crashed(rt: &impl Abort, event: &Event) {
-    match event {
-        Event::Crash {
-            cut_0,
-            cut_1,
-            fill,
-            ..
-        } => {
+    match &event.what {
+        Happening::Crash { cut_0, cut_1, fill } => {
             assert!(rt; *cut_0 == 3 && *cut_1 == 4);
             assert!(rt; fill.as_bytes() == [0xA5u8, 0x0F].as_slice());
         }

@@ -5,8 +5,8 @@ use super::event_texts::{
 };
 use super::expected::{assert_same, assert_that};
 use rows::TAPES as ROWS;
-use rr_tape::{Tape, TapeEvent};
-use rr_types::{Body, Command, Name, Op, Refusal, Reply, RequestNo, Value};
+use rr_tape::{Recorded, Tape, TapeEvent};
+use rr_types::{Body, Command, Input, Name, Op, Refusal, Reply, RequestNo, Value};
 use std::process::Abort;
 
 /// Texts of tapes: each event, each message and each reply in each of its forms, and the ends of their ranges.
@@ -166,7 +166,10 @@ fn the_millionth_event_is_the_last(rt: HostRuntime) {
 /// Asserts that an event is that node 1 hears the message with number 5.
 fn assert_heard(rt: &impl Abort, event: &TapeEvent) {
     match event {
-        TapeEvent::Hear { node, message } => { assert!(rt; node.index() == 1 && *message == 5) }
+        TapeEvent {
+            node,
+            what: Recorded::Told(Input::Hear(message)),
+        } => assert!(rt; node.index() == 1 && *message == 5),
         _ => rt.panic("another event"),
     }
 }
@@ -192,8 +195,11 @@ fn assert_claim(rt: &impl Abort, command: &Command) {
 /// Asserts that an event is that node 0 sends this to node 2, as message 4.
 fn assert_sent(rt: &impl Abort, event: &TapeEvent) {
     match event {
-        TapeEvent::Send { number, message } => {
-            assert!(rt; *number == 4);
+        TapeEvent {
+            node,
+            what: Recorded::Sent { number, message },
+        } => {
+            assert!(rt; node.index() == 0 && *number == 4);
             assert!(rt; message.from.index() == 0 && message.to.index() == 2);
             assert_estimate(rt, &message.body);
         }
@@ -204,10 +210,12 @@ fn assert_sent(rt: &impl Abort, event: &TapeEvent) {
 /// Asserts that an event is that node 2 acknowledges request 7.1, taken by client 9.
 fn assert_acknowledged(rt: &impl Abort, event: &TapeEvent) {
     match event {
-        TapeEvent::Ack {
+        TapeEvent {
             node,
-            request,
-            reply: Reply::Taken(owner),
+            what: Recorded::Acked {
+                request,
+                reply: Reply::Taken(owner),
+            },
         } => {
             let wanted = RequestNo { client: 7, seq: 1 };
             assert!(rt; node.index() == 2 && *request == wanted && *owner == 9);

@@ -1,7 +1,7 @@
 use Rattle.std.proofs.Common.{◌≡◌, refl, sym, subst, ◌∙◌}
 use Rattle.rr_node.specs.declared.doing.Doing.{Doing}
 use Rattle.rr_node.specs.declared.doing.Doing.TheVariants as does
-use Rattle.rr_node.specs.declared.event.NodeEvent.TheVariants as at
+use Rattle.rr_types.specs.declared.event.NodeEvent.TheVariants as at
 use Rattle.rr_node.specs.Views.{Carries, IsSteady, Takes, doing_of}
 use Rattle.rr_node.proofs.CallLaws.{carried}
 use Rattle.rr_node.proofs.ServingLaws.{own_serving}

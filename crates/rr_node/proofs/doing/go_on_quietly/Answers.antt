@@ -1,7 +1,8 @@
 use Rattle.std.proofs.Common.{◌≡◌, ◌≢◌, true, refl, Ok, Err}
 use Rattle.rr_node.specs.declared.doing.Doing.TheVariants as does
-use Rattle.rr_node.specs.declared.event.NodeEvent.{NodeEvent}
-use Rattle.rr_node.specs.declared.event.NodeEvent.TheVariants as at
+use Rattle.rr_types.specs.declared.event.NodeEvent.{NodeEvent}
+use Rattle.rr_types.specs.declared.message.Message.{Message}
+use Rattle.rr_types.specs.declared.event.NodeEvent.TheVariants as at
 use Rattle.rr_node.specs.declared.event.Outcome.TheVariants.{Quiet}
 use Rattle.rr_node.specs.Stances.{gives_nothing}
 use Rattle.rr_node.specs.Views.{quiet}
@@ -9,7 +10,7 @@ use Rattle.rr_node.proofs.CallLaws.{carried}
 use Rattle.rr_node.proofs.doing.go_on_quietly.Goals as goal
 
 -- all but a send and an acknowledgement give nothing
-others : (event : NodeEvent) → event ≢ at.Send → event ≢ at.Acknowledge → gives_nothing event ≡ true
+others : (event : NodeEvent Message) → event ≢ at.Send → event ≢ at.Acknowledge → gives_nothing event ≡ true
 others (at.Told input) send acknowledge = refl
 others at.Take send acknowledge = refl
 others at.Device send acknowledge = refl

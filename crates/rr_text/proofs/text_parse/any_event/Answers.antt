@@ -3,7 +3,7 @@ use Rattle.std.proofs.lemmas.Grind.{common_steps}
 use Rattle.rr_text.specs.Lines.{HasNoLine}
 use Rattle.rr_text.specs.Scheduled.{IsEvent}
 use Rattle.rr_text.specs.ScheduleTexts.{event_line}
-use Rattle.rr_text.proofs.ScheduleReading.{event_taken, event_unread}
+use Rattle.rr_text.proofs.ScheduleReading.{event_taken, event_uncut, event_unread}
 use Rattle.rr_text.proofs.text_parse.any_event.Goals as goal
 
 pub returns-in-Some-2-clause-ok : goal.returns-in-Some-2-clause-ok
@@ -21,4 +21,9 @@ pub returns-in_default-first_keyword-clause-err : goal.returns-in_default-first_
 returns-in_default-first_keyword-clause-err c =
     let none : HasNoLine (IsEvent c.args.nodes) event_line c.args.bytes.now =
     event_unread c.args.nodes c.args.bytes.now c.in-Some.text.now c.in-Some.rest.now (omega arith) c.in-Some.ensures (sym (c.in_default-first_keyword.ensures c.args.nodes)) in
+    first_of (search rules, grind (arith, common_steps))
+
+pub returns-in_default-clause-err : goal.returns-in_default-clause-err
+returns-in_default-clause-err c =
+    let none : HasNoLine (IsEvent c.args.nodes) event_line c.args.bytes.now = event_uncut c.args.nodes c.args.bytes.now (omega arith) c.in_default.ensures in
     first_of (search rules, grind (arith, common_steps))

@@ -7,7 +7,7 @@ use Rattle.rr_sweep.proofs.sweeping.Sweeping.step.Goals as goal
 pub crashes-requires : goal.crashes-requires
 crashes-requires c =
     let r = c.requires in
-    may_crash r.0 r.1 r.5.swept.few r.3 c.args.event.now c.forget_lines.new.self
+    may_crash r.0 r.1 r.5.swept.few r.3 c.args.event.now.node c.args.event.now.what c.forget_lines.new.self
     (behind_it r.0 r.1 r.2 r.3 r.4 c.args.line c.args.event.now c.args.self.now c.step_in_memory.new.self c.forget_lines.new.self r.5 c.in_ok-step_in_memory.ensures.ok c.in_ok-step_in_memory.ensures.spelt c.forget_lines.ensures)
     r.5.there
 
