@@ -1,9 +1,9 @@
 -- What a node's calls answer follows its definition.
-use Rattle.std.proofs.Common.{◌≡◌, ◌+◌, ℕ, Bool, true, false, eqb, if◌then◌else◌, List, [], Option, None, Some, option_map, Result, Ok, Err, refl, sym, ◌∙◌, ap, subst}
+use Rattle.std.proofs.Common.{◌≡◌, ◌+◌, ℕ, Bool, eqb, if◌then◌else◌, List, [], Option, None, Some, option_map, Result, Ok, Err, refl, sym, ◌∙◌, ap, subst}
 use Rattle.std.specs.Result.{OnOk, OnErr}
 use Rattle.std.specs.Prelude.{slice_get, slice_set, length, get_or, ◌<◌}
 use Rattle.std.proofs.lemmas.Option.{slice_get_read, same_Some}
-use Rattle.std.proofs.lemmas.Bool.{eqb-true, eq-eqb}
+use Rattle.std.proofs.lemmas.Bool.{eq-eqb}
 use Rattle.std.specs.Option.{option_and_then}
 use Rattle.rr_types.specs.declared.fact.Fact.{Fact}
 use Rattle.rr_types.specs.declared.message.Message.{Message}
@@ -77,15 +77,3 @@ heard_on wire p k m at own =
 pub follows_hear : (wire : List Message) (p k : ℕ) (m : Message) (old new : NodeState) (r : Result (Option Given) Refusal) → slice_get wire k ≡ Some m → m.to ≡ p
     → Answers (refusal_of (node.Hear m) old ≡ None) (node_step (node.Hear m) old) new r → FollowsAt wire (of_node p (tape.Told (node.Hear k))) old new r
 follows_hear wire p k m old new r at own h = follows_told wire p (node.Hear k) (node.Hear m) old new r (heard_on wire p k m at own) h
-
--- a message that isn't there for the node is none that it hears
-pub hears_none : (wire : List Message) (p k : ℕ) (old : NodeState) (does : NodeEvent) → ((m : Message) → slice_get wire k ≡ Some m → m.to ≡ p → ⊥) → IsNextAt wire old (of_node p (tape.Told (node.Hear k))) does → ⊥
-hears_none wire p k old does none next = by (slice_get wire k) refl next.1
-  where
-    own : (m : Message) (b : Bool) → slice_get wire k ≡ Some m → eqb m.to p ≡ b → option_map node.Hear (if b then Some m else None) ≡ Some next.0 → ⊥
-    own m true at is e = none m at (eqb-true m.to p is)
-    own m false at is e = let no : None ≡ Some next.0 = e in cc
-
-    by : (o : Option Message) → slice_get wire k ≡ o → option_map node.Hear (option_and_then (λ m. if eqb m.to p then Some m else None) o) ≡ Some next.0 → ⊥
-    by None at e = let no : None ≡ Some next.0 = e in cc
-    by (Some m) at e = own m (eqb m.to p) at refl e

@@ -29,7 +29,7 @@ use Rattle.rr_model.proofs.Soundness.{sound}
 use Rattle.rr_tape.specs.declared.tape_event.TapeEvent.{TapeEvent}
 use Rattle.rr_tape.specs.declared.tape_event.Recorded.{Recorded}
 use Rattle.rr_tape.specs.declared.tape_event.Recorded.TheVariants as tape
-use Rattle.rr_types.specs.declared.input.Input.TheVariants as told
+use Rattle.rr_types.specs.declared.input.Input.TheVariants as input
 use Rattle.rr_tape.specs.Taped.{of_node}
 use Rattle.rr_audit.specs.Audits.{Replay, new_replay, IsNext, sent_by, told_by, submitted_by, replayed, Leads, openings, IsTapeRun, submits, sends, acks, AgreesWithOneList}
 use Rattle.rr_audit.proofs.Alike.{IsThere, IsProper, IsAlike, Took, takes}
@@ -199,8 +199,8 @@ contains_later y xs x (k, l, e) = (suc k, omega (arith, l), e)
 -- what was submitted, an event submits: this one, or one behind it
 submitted_first : (q : ℕ) (what : Recorded) (events : List TapeEvent) (c : Command) → (Contains (flat_map submitted_by events) c → (p : ℕ) × Contains events (submits p c))
     → Contains (submitted_by (of_node q what) ++ flat_map submitted_by events) c → (p : ℕ) × Contains (of_node q what ∷ events) (submits p c)
-submitted_first q (tape.Told (told.Submit d)) events c more (zero, l, e) = (q, (0, omega arith, let same : d ≡ c = e in ap (submits q) same))
-submitted_first q (tape.Told (told.Submit d)) events c more (suc k, l, e) = let r = more (k, omega (arith, l), e) in (r.0, contains_later (submits q d) events (submits r.0 c) r.1)
+submitted_first q (tape.Told (input.Submit d)) events c more (zero, l, e) = (q, (0, omega arith, let same : d ≡ c = e in ap (submits q) same))
+submitted_first q (tape.Told (input.Submit d)) events c more (suc k, l, e) = let r = more (k, omega (arith, l), e) in (r.0, contains_later (submits q d) events (submits r.0 c) r.1)
 submitted_first q what events c more h = let r = more h in (r.0, contains_later (of_node q what) events (submits r.0 c) r.1)
 
 submitted_by_event : (events : List TapeEvent) (c : Command) → Contains (flat_map submitted_by events) c → (p : ℕ) × Contains events (submits p c)

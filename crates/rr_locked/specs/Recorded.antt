@@ -21,7 +21,7 @@ pub record Sent : Type 0 where
 
 -- an input, where the message that it hears, if it hears one, goes by number k
 abbrev pub numbered : ℕ → Input Message → Input ℕ
-numbered k input = option_map_or (λ told. told) (told_as (λ m. Some k) input) (told.Hear k)
+numbered k input = option_map_or (λ i. i) (told_as (λ m. Some k) input) (told.Hear k)
 
 -- an input of node p as an event of a tape, on which a message that it hears has number k
 abbrev pub event_of : ℕ → ℕ → Input Message → TapeEvent

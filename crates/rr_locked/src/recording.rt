@@ -6,7 +6,7 @@ ghost use Rattle.rr_locked.specs.Recorded.{sent_on, with_event, HasNoPlace};
 use crate::among::is_among;
 use rr_tape::{Recorded, Tape, TapeEvent};
 use rr_text::MAX_EVENTS;
-use rr_types::{Body, Command, Estimate, Message, Nodes, Op, Refusal, Reply, made_of};
+use rr_types::{Body, Command, Estimate, Input, Message, Nodes, Op, Refusal, Reply, made_of};
 use std::alloc::Global;
 use std::marker::Model;
 
@@ -63,7 +63,7 @@ impl Recording {
         ensures err { OnErr result (self.new ≡ self.old) }
         ensures cause { IfErr result (HasNoPlace self.old event.now) }
     {
-        made_of!(Body, Command, Estimate, Message, Op, Reply);
+        made_of!(Body, Command, Estimate, Input<u32>, Message, Op, Reply);
         if self.events.len() == MAX_EVENTS || !is_among(self.nodes, event) {
             return Err(Refusal::BadEvent(self.events.len() as u64 + 2));
         }
