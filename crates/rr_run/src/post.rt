@@ -184,8 +184,8 @@ impl Board for Post {
         }
     }
 
-    fn ending(&self) -> Refusal {
-        self.ending.refusal()
+    fn ending<R: Wait>(&self, rt: &R) -> Refusal {
+        self.ending.refusal(rt)
     }
 
     fn rest<R: Wait>(&self, rt: &R) {
