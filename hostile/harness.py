@@ -2,10 +2,12 @@
 import collections
 import os
 import pathlib
+import select
 import shutil
 import signal
 import subprocess
 import tempfile
+import time
 
 TREE = pathlib.Path(__file__).resolve().parent.parent
 DATA = TREE / "crates/worked_rows/data"
@@ -167,6 +169,26 @@ class Rig:
         self.plain.child.stdin.close()
         self.plain.child.wait()
         shutil.rmtree(self.folder, ignore_errors=True)
+
+
+class Lines:
+    """The lines of a stream, one after another."""
+
+    def __init__(self, file):
+        self.file, self.read, self.has_ended = file, b"", False
+
+    def next(self, limit):
+        """The next line; None where the stream ends before, or none comes in so many seconds."""
+        until = time.monotonic() + limit
+        while b"\n" not in self.read:
+            left = until - time.monotonic()
+            if self.has_ended or left <= 0 or not select.select([self.file], [], [], left)[0]:
+                return None
+            more = os.read(self.file.fileno(), 65536)
+            self.has_ended = not more
+            self.read += more
+        line, _, self.read = self.read.partition(b"\n")
+        return line.decode()
 
 
 def answers_of(text):

@@ -69,9 +69,15 @@ def files_of(folder, nodes):
 
 def traced(rig, folder, nodes, lines):
     """Runs a script under strace: how it ended, and the calls on areas and standard output in their order."""
-    trace, script = rig.path("trace"), rig.write("script", scripts.text_of(lines))
-    words = [shutil.which("strace"), "-q", "-f", "-xx", "-y", "-s", "1000000", "-o", trace, "-e", f"trace={TRACED}"]
-    ending = rig.run_all([*words, rig.rr, "run", "--nodes", str(nodes), "--dir", folder, "--script", script], limit=LONG)
+    script = rig.write("script", scripts.text_of(lines))
+    return traced_words(rig, TRACED, [rig.rr, "run", "--nodes", str(nodes), "--dir", folder, "--script", script])
+
+
+def traced_words(rig, calls, words):
+    """Runs these words under strace: how they ended, and these calls in their order."""
+    trace = rig.path("trace")
+    begun = [shutil.which("strace"), "-q", "-f", "-xx", "-y", "-s", "1000000", "-o", trace, "-e", f"trace={calls}"]
+    ending = rig.run_all([*begun, *words], limit=LONG)
     with open(trace) as file:
         events = list(events_of(file))
     os.remove(trace)
@@ -79,7 +85,8 @@ def traced(rig, folder, nodes, lines):
 
 
 def events_of(file):
-    """The calls' beginnings and ends: (begin or end, call, path, offset, bytes), where each write and sync is told twice."""
+    """The calls' beginnings and ends: (begin or end, call, path, offset, bytes), where each call is told twice. A call that names a path
+    has it for its bytes."""
     open_calls = {}
     for line in file:
         match = LINE.match(line)
@@ -88,7 +95,7 @@ def events_of(file):
         thread, call, what, resumed, rest = match.groups()
         if call:
             at = int(OFFSET.search(what)[1]) if call == "pwrite64" else 0
-            data = bytes_of(what) if call in ("write", "pwrite64") else b""
+            data = bytes_of(what)
             open_calls[thread] = ("write" if call == "pwrite64" else call, path_of(what), at, data)
             yield ("begin", *open_calls[thread])
             rest = what
@@ -132,6 +139,16 @@ class Node:
         self.clean[area] = True
         self.disk = reading.Disk(self.synced)
         self.facts.update(self.disk.numbered())
+
+    def left(self, rng):
+        """What a power cut may leave: a loose range holds any bytes, and what was appended is cut off anywhere."""
+        image = []
+        for written, synced, torn in zip(self.written, self.synced, self.torn):
+            file = bytearray(written)
+            for at, length in torn:
+                file[at : at + length] = bytes(rng.choice((0, 0xA5, rng.randrange(256))) for _ in range(length))
+            image.append(bytes(file[: rng.randint(len(synced), max(len(synced), len(file)))]))
+        return tuple(image)
 
 
 class Watched:
@@ -222,23 +239,13 @@ class Watched:
     def cut_power(self, node):
         """The power fails: of what node `node` has not synced nothing, all, or something else is left."""
         its = self.nodes[node]
-        images = {tuple(its.synced), tuple(map(bytes, its.written)), self.torn(its)}
+        images = {tuple(its.synced), tuple(map(bytes, its.written)), its.left(self.rng)}
         for image in images:
             for area in (0, 1):
                 self.rig.write(f"cut/{node}/a{area}", image[area])
             self.show(node, image)
         if self.rng.randrange(RUN_SHARE) == 0:
             self.go_on()
-
-    def torn(self, its):
-        """A loose range holds any bytes, and what was appended is cut off anywhere."""
-        image = []
-        for written, synced, torn in zip(its.written, its.synced, its.torn):
-            file = bytearray(written)
-            for at, length in torn:
-                file[at : at + length] = bytes(self.rng.choice((0, 0xA5, self.rng.randrange(256))) for _ in range(length))
-            image.append(bytes(file[: self.rng.randint(len(synced), max(len(synced), len(file)))]))
-        return tuple(image)
 
     def show(self, node, image):
         """`rr show` reads what is left, and tells what reading.py finds: all that was synced, and at most one group more."""
@@ -257,7 +264,7 @@ class Watched:
         folder = self.rig.path("gone-on")
         shutil.rmtree(folder, ignore_errors=True)
         for number, its in enumerate(self.nodes):
-            for area, data in enumerate(self.torn(its)):
+            for area, data in enumerate(its.left(self.rng)):
                 self.rig.write(f"gone-on/{number}/a{area}", data)
         # As the cluster's file is until the last node has been formatted.
         if not all(its.disk.epoch for its in self.nodes):

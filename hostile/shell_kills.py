@@ -15,13 +15,15 @@ import argparse
 import collections
 import os
 import random
-import select
 import shutil
 import subprocess
 import sys
 import tempfile
 import threading
 import time
+
+sys.dont_write_bytecode = True
+from harness import Lines  # noqa: E402
 
 MOST_NAMES = 2000
 BLOCK = 1048576
@@ -37,10 +39,11 @@ class Wrong(Exception):
 class Shell:
     """A shell that runs, asked line by line."""
 
-    def __init__(self, rr, nodes, folder):
+    def __init__(self, rr, nodes, folder, env=None):
         words = [rr, "shell", "--nodes", str(nodes), "--dir", folder, "--client", "7"]
-        self.child = subprocess.Popen(words, stdin=subprocess.PIPE, stdout=subprocess.PIPE, stderr=subprocess.PIPE, bufsize=0)
-        self.read = b""
+        pipe = subprocess.PIPE
+        self.child = subprocess.Popen(words, stdin=pipe, stdout=pipe, stderr=pipe, bufsize=0, env=env)
+        self.lines = Lines(self.child.stdout)
         self.asked = 0
 
     def ask(self, line):
@@ -55,15 +58,10 @@ class Shell:
 
     def hear(self, line):
         """The next line of the answer to a line; None where the shell has gone before it gave one."""
-        while b"\n" not in self.read:
-            if not select.select([self.child.stdout], [], [], LIMIT)[0]:
-                raise Wrong(f"no answer to {line!r} in {LIMIT} seconds")
-            more = os.read(self.child.stdout.fileno(), 65536)
-            if not more:
-                return None
-            self.read += more
-        answer, _, self.read = self.read.partition(b"\n")
-        return answer.decode()
+        answer = self.lines.next(LIMIT)
+        if answer is None and not self.lines.has_ended:
+            raise Wrong(f"no answer to {line!r} in {LIMIT} seconds")
+        return answer
 
     def end(self):
         """Its status and standard error, once it has ended."""

@@ -26,7 +26,7 @@ import time
 
 sys.dont_write_bytecode = True
 import reading  # noqa: E402
-from harness import TREE  # noqa: E402
+from harness import TREE, Lines  # noqa: E402
 
 # Seconds after which an answer or an end hangs.
 LIMIT = 30
@@ -56,7 +56,7 @@ class Shell:
         begun = [case.rr, "shell", "--dir", case.folder, *words]
         self.child = subprocess.Popen(begun, stdin=input, stdout=out, stderr=subprocess.PIPE, bufsize=0, env=env or {}, cwd=case.room)
         case.children.append(self.child)
-        self.read = b""
+        self.lines = Lines(self.child.stdout)
 
     def say(self, line):
         try:
@@ -66,17 +66,7 @@ class Shell:
 
     def hear(self, limit=LIMIT):
         """The next line of an answer; None where there is none in time, or the shell has gone."""
-        until = time.monotonic() + limit
-        while b"\n" not in self.read:
-            left = until - time.monotonic()
-            if left <= 0 or not select.select([self.child.stdout], [], [], left)[0]:
-                return None
-            more = os.read(self.child.stdout.fileno(), 65536)
-            if not more:
-                return None
-            self.read += more
-        answer, _, self.read = self.read.partition(b"\n")
-        return answer.decode()
+        return self.lines.next(limit)
 
     def ask(self, line, limit=LIMIT):
         self.say(line)

@@ -4,3 +4,4 @@ pub mod StepLaws
 pub mod TextLemmas
 mod WatchLaws
 pub mod TapeLaws
+pub mod DifferenceLemmas

@@ -1,5 +1,6 @@
 pub mod Accounts
 pub mod Counts
+pub mod Differences
 pub mod Objects
 pub mod Texts
 pub mod TapeAccounts

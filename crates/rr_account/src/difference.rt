@@ -1,6 +1,8 @@
 //! Where two reports differ first.
 
-ghost use Rattle.std.specs.Prelude.{◌≡◌, ◌≢◌, None, IsSome};
+ghost use Rattle.std.specs.Prelude.{◌≡◌, ◌≢◌, ◌<◌, ◌++◌, [], true, false, length, None, Some, IsSome, IfSome, option_map};
+ghost use Rattle.rr_text.specs.Reading.{cut_at};
+ghost use Rattle.rr_account.specs.Differences.{first_line, rest_by, DifferIn};
 
 use crate::account::Account;
 use rr_text::text_read::cut;
@@ -20,6 +22,7 @@ pub struct Difference<'a> {
 pub fn difference_of<'a>(ours: &'a [u8], theirs: &'a [u8]) -> Option<Difference<'a>>
     ensures same { result ≡ None → ours.entry.now ≡ theirs.entry.now }
     ensures other { IsSome result → ours.entry.now ≢ theirs.entry.now }
+    ensures first { IfSome result (λ d. DifferIn ours.entry.now theirs.entry.now d.line (option_map (λ l. l.now) d.ours) (option_map (λ l. l.now) d.theirs)) }
 {
     if ours == theirs {
         None
@@ -28,43 +31,69 @@ pub fn difference_of<'a>(ours: &'a [u8], theirs: &'a [u8]) -> Option<Difference<
     }
 }
 
-// The first line at the front of a text, with its line feed where it has one, and what stands behind it.
-fn front<'a>(text: &'a [u8]) -> (Option<&'a [u8]>, &'a [u8]) {
+// The first line of a text, with its line feed where it has one, and what stands behind it. A text that has ended has none.
+#[tactic(auto, using(rr_text::proofs::CutLemmas::cut_takes))]
+fn front<'a>(text: &'a [u8]) -> Option<(&'a [u8], &'a [u8])>
+    ensures none { result ≡ None → text.entry.now ≡ [] }
+    ensures line { IfSome result (λ x. Some x.0.now ≡ first_line text.entry.now) }
+    ensures behind { IfSome result (λ x. x.1.now ≡ rest_by (cut_at 10 text.entry.now)) }
+    ensures all { IfSome result (λ x. (text.entry.now ≡ x.0.now ++ x.1.now) × (0 < length x.0.now)) }
+{
     if text.is_empty() {
-        return (None, text);
+        return None;
     }
     match cut(text, b'\n') {
-        Some((line, behind)) => (
-            Some(&text[..line.len().saturating_add(1).min(text.len())]),
-            behind,
-        ),
-        None => (Some(text), b""),
+        Some((line, behind)) => Some((&text[..line.len() + 1], behind)),
+        None => Some((text, &text[text.len()..])),
     }
 }
 
-// The first line in which two texts differ, or behind their end where they are the same.
-fn first_of<'a>(ours: &'a [u8], theirs: &'a [u8]) -> Difference<'a> {
+// Whether two lines differ.
+fn is_other(own: &[u8], other: &[u8]) -> bool
+    ensures apart { result ≡ true → own.now ≢ other.now }
+    ensures same { result ≡ false → own.now ≡ other.now }
+{
+    own != other
+}
+
+// The first line in which two texts differ.
+fn first_of<'a>(ours: &'a [u8], theirs: &'a [u8]) -> Difference<'a>
+    requires { ours.now ≢ theirs.now }
+    ensures { DifferIn ours.entry.now theirs.entry.now result.line (option_map (λ l. l.now) result.ours) (option_map (λ l. l.now) result.theirs) }
+{
     let mut line = 1u64;
-    let mut ours = ours;
-    let mut theirs = theirs;
-    for _ in 0..u64::MAX {
-        let (own, own_rest) = front(ours);
-        let (other, other_rest) = front(theirs);
-        if own != other || own.is_none() {
+    let mut our_rest = ours;
+    let mut their_rest = theirs;
+    'lines: while let Some((own, own_behind)) = front(our_rest) {
+        let Some((other, other_behind)) = front(their_rest) else {
             return Difference {
                 line,
-                ours: own,
-                theirs: other,
+                ours: Some(own),
+                theirs: None,
+            };
+        };
+        if is_other(own, other) {
+            return Difference {
+                line,
+                ours: Some(own),
+                theirs: Some(other),
             };
         }
-        ours = own_rest;
-        theirs = other_rest;
-        line = line.saturating_add(1);
+        our_rest = own_behind;
+        their_rest = other_behind;
+        line += 1;
     }
-    Difference {
-        line,
-        ours: None,
-        theirs: None,
+    match front(their_rest) {
+        Some((other, _)) => Difference {
+            line,
+            ours: None,
+            theirs: Some(other),
+        },
+        None => Difference {
+            line,
+            ours: None,
+            theirs: None,
+        },
     }
 }
 

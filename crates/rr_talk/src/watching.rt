@@ -3,6 +3,7 @@
 ghost use Rattle.std.specs.Prelude.{◌≡◌, [], IfOk, OnOk, OnErr};
 ghost use Rattle.rr_stream.specs.Streams.{IsPrinted};
 ghost use Rattle.rr_shell.specs.Forms.{watching_said};
+ghost use Rattle.rr_talk.specs.Deeds.{observes};
 ghost use Rattle.rr_talk.specs.Hearings.{Hears};
 ghost use Rattle.rr_talk.specs.Watches.{bytes_of, IsOver, IsToldOf, IsShown, IsFrontSaid};
 
@@ -25,8 +26,16 @@ pub struct Watched {
     pub prefix: Option<Name>,
 }
 
-// Prints that a watch has begun.
-fn print_watching<O: Sink>(alloc: Global, json: bool, out: &mut O) -> Result<(), Stop>
+// Prints that a watch has begun at a node, once it has.
+fn print_watching<O: Sink, A: Asked>(
+    alloc: Global,
+    json: bool,
+    node: NodeId,
+    watched: &Watched,
+    _asked: &A,
+    out: &mut O,
+) -> Result<(), Stop>
+    requires { A.did (observes node watched.now.prefix) }
     ensures printed { OnOk result (IsPrinted (O.printing out.old) (O.printing out.new) (watching_said json)) }
     ensures front { OnErr result (IsFrontSaid (O.printing out.old) (O.printing out.new)) }
 {
@@ -126,7 +135,7 @@ pub(crate) fn watch_and_hear<I: Prompting, O: Sink + Send, A: Asked + Send, R: T
     if let Err(refusal) = asked.watch(node, &watched.prefix) {
         return Err(Stop::Refused(refusal));
     }
-    print_watching(alloc, json, out)?;
+    print_watching(alloc, json, node, watched, asked, out)?;
     input.prompt();
     hear_beside(alloc, json, &watched.prefix, asked, rt, input, out)
 }
