@@ -4,8 +4,8 @@
     bench/figures.py [--rr PROGRAM] [--opening PROGRAM] [--rounds N] [--small]
 
 --rr names the program, crates/rr/out/rr if left out, and --opening a bench_opening that is there; else it is built first. --rounds is for
-each script, 7 if left out. On a quiet machine it takes some six minutes, and with --small one, by short runs that show only that each line
-comes. First come the lines of the scripts, as they print them; the table is computed from these lines alone."""
+each script, 7 if left out; run.py makes three times as many. On a quiet machine it takes some six minutes, and with --small one, by short
+runs that show only that each line comes. First come the lines of the scripts, as they print them; the table is computed from these lines alone."""
 import argparse
 import os
 import pathlib
@@ -74,7 +74,8 @@ def audits(given):
 
 
 def runs(given):
-    text = said_by("./run.py", "--rr", given.rr, "--rounds", given.rounds, "--only", "tmpfs")
+    # Which processors the threads get decides more than the program, so there are more rounds of these, which are short.
+    text = said_by("./run.py", "--rr", given.rr, "--rounds", 3 * given.rounds, "--only", "tmpfs")
     rows = [found(rf"tmpfs, {nodes} nodes: .*rr has ([\d.]+) times", text)[0] for nodes in NODES]
     yield "`rr run`, tmpfs, 1, 3 and 7 nodes: commands a second", "0.72; 0.86; 0.80", "0.85; 0.92; 0.90", "; ".join(f"{row:.2f}" for row in rows)
 
