@@ -50,13 +50,14 @@ class Programs:
         path, out = self.room / "script", self.room / "answers"
         path.write_text(script)
         words = [*before, *self.words[program], "--nodes", str(nodes), "--dir", str(folder), "--script", str(path)]
-        with open(out, "w") as answers:
+        told = self.room / "told"
+        with open(out, "w") as answers, open(told, "w") as warnings:
             begun = time.monotonic()
-            child = subprocess.Popen(words, stdout=answers)
+            child = subprocess.Popen(words, stdout=answers, stderr=warnings)
             _, status, used = os.wait4(child.pid, 0)
             seconds = time.monotonic() - begun
         if status != 0:
-            sys.exit(f"{program}: status {status}")
+            sys.exit(f"{program}: status {status}: {told.read_text()}")
         return out.read_text(), seconds, used.ru_utime + used.ru_stime
 
     def show(self, folder):
