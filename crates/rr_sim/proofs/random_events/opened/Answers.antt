@@ -3,8 +3,23 @@ use Rattle.std.proofs.Math.ListN.{drop_of_length-le}
 use Rattle.rr_text.specs.declared.event.Event.{Event}
 use Rattle.rr_sim.specs.Clusters.{LeadsSpelt}
 use Rattle.rr_sim.specs.Random.{LeadsInMemory}
-use Rattle.rr_sim.proofs.OpenedLaws.{opened_so}
+use Rattle.rr_sim.proofs.OpenedLaws.{opened_so, leads_more, spelt_more}
 use Rattle.rr_sim.proofs.random_events.opened.Goals as goal
+
+pub loop-event-preserved : goal.loop-event-preserved
+loop-event-preserved c =
+    let events = c.args.events.now in
+    let i = c.loop-event.event-index in
+    let at = c.loop-event.line in
+    let e = c.event-item.result in
+    let old = c.loop-event.cluster in
+    let next = c.step_in_memory.new.self in
+    let step = c.in_ok-step_in_memory.ensures in
+    let number = c.loop-event.invariant.0 in (
+      omega (arith, number),
+      λ end led. c.loop-event.invariant.1 end (leads_more at i events e old next end c.loop-event-test.true c.event-item.is step.ok led),
+      λ end led. c.loop-event.invariant.2 end (spelt_more at i events e old next end c.loop-event-test.true c.event-item.is step.ok step.spelt led),
+    )
 
 pub returns-clause-ok : goal.returns-clause-ok
 returns-clause-ok c =
