@@ -1,5 +1,5 @@
 -- A node is asked for what its clients want.
-use Rattle.std.proofs.Common.{◌≡◌, ◌∷◌, [], ◌+◌, ℕ, suc, Ok, Err, Result, Bool, true, false, sym, subst, cond}
+use Rattle.std.proofs.Common.{◌≡◌, ◌∷◌, [], ℕ, Ok, Err, Result, true, false, sym, subst, cond}
 use Rattle.std.specs.Prelude.{is_some}
 use Rattle.rr_types.specs.declared.command.Command.{Command}
 use Rattle.rr_types.specs.declared.input.Input.TheVariants.{Submit}

@@ -1,5 +1,5 @@
 -- What is heard, message by message.
-use Rattle.std.proofs.Common.{◌≡◌, ◌∙◌, ◌≤◌, ◌++◌, ◌∷◌, [], ◌+◌, ℕ, List, Option, Some, None, Result, Ok, Err, Bool, true, false, length, nat_lt, refl, sym, ap, subst, cond, append_assoc, arith}
+use Rattle.std.proofs.Common.{◌≡◌, ◌∙◌, ◌≤◌, ◌++◌, ◌∷◌, [], ◌+◌, ℕ, List, Option, Some, None, Result, Bool, true, false, length, nat_lt, refl, sym, ap, subst, cond, append_assoc, arith}
 use Rattle.std.specs.Prelude.{◌==◌, OnOk}
 use Rattle.rr_types.specs.declared.refusal.Refusal.{Refusal}
 use Rattle.rr_model.specs.NodeState.{NodeState, decided_prefix}

@@ -1,8 +1,7 @@
 -- What a node gives to its flusher.
-use Rattle.std.proofs.Common.{◌≡◌, Option, Some, None, Result, Ok, Err, refl, sym, subst}
+use Rattle.std.proofs.Common.{◌≡◌, Option, Some, None, Ok, Err, refl, sym, subst}
 use Rattle.std.specs.Prelude.{IfSome, IsSome}
 use Rattle.rr_types.specs.Groups.{Grouped}
-use Rattle.rr_types.specs.declared.refusal.Refusal.{Refusal}
 use Rattle.rr_types.specs.declared.refusal.Refusal.TheVariants.{Busy}
 use Rattle.rr_model.specs.NodeState.{NodeState}
 use Rattle.rr_model.specs.NodeStep.{running_group, group_taken}

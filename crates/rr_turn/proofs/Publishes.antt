@@ -1,5 +1,5 @@
 -- A turn of a publisher.
-use Rattle.std.proofs.Common.{◌≡◌, ◌<◌, ◌≤◌, ◌∷◌, [], List, length, drop, Option, Some, None, Result, Ok, Err, true, false, refl, sym, subst, ap, arith}
+use Rattle.std.proofs.Common.{◌≡◌, ◌<◌, ◌≤◌, ◌∷◌, [], List, length, drop, Option, Some, None, Result, Ok, Err, true, false, refl, sym, subst, arith}
 use Rattle.std.specs.Prelude.{IfOk, IfSome}
 use Rattle.std.specs.List.{HoldsAt}
 use mathlib.Core.List.{IsPrefix}

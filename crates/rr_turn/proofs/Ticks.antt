@@ -2,7 +2,7 @@
 use Rattle.std.proofs.Common.{◌≡◌, ◌∙◌, ◌^◌, ◌++◌, ◌∷◌, [], ℕ, Option, Some, None, Result, Ok, Err, Bool, true, false, length, nat_lt, refl, sym, ap, subst, cond}
 use Rattle.std.specs.Prelude.{is_some, OnOk}
 use Rattle.std.specs.Option.{option_map_or}
-use Rattle.rr_types.specs.declared.input.Input.TheVariants.{Hear, Tick, Advance}
+use Rattle.rr_types.specs.declared.input.Input.TheVariants.{Tick, Advance}
 use Rattle.rr_types.specs.declared.refusal.Refusal.{Refusal}
 use Rattle.rr_types.specs.declared.refusal.Refusal.TheVariants.{RoundsOut, TooLarge}
 use Rattle.rr_model.specs.NodeState.{NodeState, next_number, decided_prefix}

@@ -1,7 +1,7 @@
 -- How often a client has rested.
-use Rattle.std.proofs.Common.{◌≡◌, ◌∙◌, ◌++◌, ◌∷◌, [], ◌≤◌, ◌+◌, ℕ, zero, suc, List, true, false, refl, sym, ap, subst, arith}
+use Rattle.std.proofs.Common.{◌≡◌, ◌++◌, ◌∷◌, [], ◌≤◌, ◌+◌, ℕ, zero, suc, true, false, refl, sym, ap, subst, arith}
 use Rattle.rr_turn.specs.Asked.{Call, Ran, still, more, sees_told, sees_end, rests_there}
-use Rattle.rr_turn.specs.Waits.{waits, seen, Stop, is_told, is_ending, is_late, WaitsAt}
+use Rattle.rr_turn.specs.Waits.{waits, is_told, is_ending, is_late, WaitsAt}
 use Rattle.rr_turn.proofs.Runs.{run_join}
 
 waits_more : (n : ℕ) → waits (suc n) ≡ waits n ++ (sees_told false ∷ sees_end false ∷ rests_there ∷ [])

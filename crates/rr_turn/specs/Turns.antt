@@ -1,5 +1,5 @@
 -- What a node's thread calls in the parts of a turn, as a function of the node's state and of what it was answered.
-use Rattle.std.specs.Prelude.{◌≡◌, ℕ, zero, suc, ◌+◌, ◌++◌, ◌∷◌, [], Bool, true, false, ◌==◌, not, if◌then◌else◌, List, length, Option, None, Some, Result, Ok, Err, is_some, nat_lt}
+use Rattle.std.specs.Prelude.{ℕ, zero, suc, ◌+◌, ◌++◌, ◌∷◌, [], Bool, true, false, ◌==◌, not, if◌then◌else◌, List, length, Option, None, Some, Result, Ok, Err, is_some}
 use Rattle.std.specs.Option.{option_map_or}
 use Rattle.rr_types.specs.Nodes.{has_member, with_member}
 use Rattle.rr_types.specs.declared.message.Message.{Message}

@@ -1,5 +1,5 @@
 -- A node is asked for what its clients want.
-use Rattle.std.specs.Prelude.{◌≡◌, ℕ, zero, suc, ◌+◌, ◌∷◌, [], Bool, true, false, if◌then◌else◌, List, Option, None, Some, Result, Ok, Err, is_some}
+use Rattle.std.specs.Prelude.{◌≡◌, ℕ, zero, suc, ◌+◌, ◌∷◌, [], Bool, if◌then◌else◌, List, Option, None, Some, Result, Ok, Err, is_some}
 use Rattle.rr_types.specs.declared.command.Command.{Command}
 use Rattle.rr_types.specs.declared.input.Input.TheVariants.{Submit}
 use Rattle.rr_types.specs.declared.refusal.Refusal.{Refusal}

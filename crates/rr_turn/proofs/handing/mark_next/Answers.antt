@@ -1,4 +1,4 @@
-use Rattle.std.proofs.Common.{[], ◌∷◌, None, Some, Ok, refl, sym, subst, cond}
+use Rattle.std.proofs.Common.{[], ◌∷◌, None, Some, refl, sym, subst, cond}
 use Rattle.rr_turn.specs.Asked.{Ran, comes, wakes_publisher, still, more}
 use Rattle.rr_turn.proofs.handing.mark_next.Goals as goal
 

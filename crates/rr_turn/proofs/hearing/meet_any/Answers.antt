@@ -1,4 +1,4 @@
-use Rattle.std.proofs.Common.{[], Some, refl, sym, subst}
+use Rattle.std.proofs.Common.{refl, sym, subst}
 use Rattle.rr_turn.specs.Asked.{still}
 use Rattle.rr_turn.specs.Looks.{MeetsAny}
 use Rattle.rr_turn.proofs.Hears.{meets_one}

@@ -1,4 +1,4 @@
-use Rattle.std.proofs.Common.{true, false, refl, subst}
+use Rattle.std.proofs.Common.{refl, subst}
 use Rattle.rr_turn.specs.Asked.{notices}
 use Rattle.rr_turn.proofs.submitting.submit_next.Goals as goal
 

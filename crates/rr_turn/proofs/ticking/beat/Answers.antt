@@ -1,4 +1,4 @@
-use Rattle.std.proofs.Common.{◌≡◌, ◌∙◌, true, false, length, ap, sym}
+use Rattle.std.proofs.Common.{◌≡◌, ◌∙◌, length, ap, sym}
 use Rattle.std.proofs.lemmas.Result.{on_ok_weaker}
 use Rattle.rr_types.specs.declared.input.Input.TheVariants.{Tick}
 use Rattle.rr_model.specs.NodeState.{NodeState, decided_prefix}

@@ -1,4 +1,4 @@
-use Rattle.std.proofs.Common.{true, false, sym, subst}
+use Rattle.std.proofs.Common.{sym, subst}
 use Rattle.std.specs.Duration.{as_nanos}
 use Rattle.rr_turn.specs.Asked.{rests}
 use Rattle.rr_turn.specs.Looks.{RestsIf}

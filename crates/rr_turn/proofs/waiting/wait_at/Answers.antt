@@ -1,4 +1,4 @@
-use Rattle.std.proofs.Common.{true, false, subst, arith}
+use Rattle.std.proofs.Common.{subst, arith}
 use Rattle.rr_turn.specs.Asked.{sees_told, sees_end}
 use Rattle.rr_turn.proofs.Waits.{waits_none, waits_on, waited_told, waited_down, waited_late}
 use Rattle.rr_turn.proofs.waiting.wait_at.Goals as goal

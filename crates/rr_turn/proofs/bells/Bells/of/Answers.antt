@@ -1,4 +1,4 @@
-use Rattle.std.proofs.Common.{◌≡◌, ◌∙◌, ◌<◌, sym, subst, arith}
+use Rattle.std.proofs.Common.{◌≡◌, ◌∙◌, ◌<◌, arith}
 use Rattle.rr_turn.proofs.Rows.{at_place}
 use Rattle.rr_turn.proofs.bells.Bells.of.Goals as goal
 
