@@ -1,3 +1,4 @@
+pub mod AnswerLemmas
 pub mod RelayLemmas
 pub mod RoundLemmas
 pub mod DueLemmas

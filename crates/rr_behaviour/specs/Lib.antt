@@ -1,3 +1,4 @@
 pub mod Dues
 pub mod Rounds
 pub mod Changes
+pub mod Answering

@@ -82,3 +82,11 @@ pub fn input_step(
     take_in(&mut step, alloc, input, is_held)?;
     finish(step)
 }
+
+/// What doing all that is due changes, in the room of other changes. It is `TooLarge` where a fact would have no number.
+pub fn due_step(state: &State, room: Box<Changes>) -> Result<Box<Changes>, Refusal>
+    ensures ok { IfOk result (λ c. IsSettled state.now state.now c.value) }
+    ensures refused { IfErr result (λ e. (e ≡ Refusal.OutOfMemory) ⊎ ((e ≡ Refusal.TooLarge) × (2 ^ 64 ≤ next_number (settle state.now)))) }
+{
+    finish(Step::new(room, state))
+}

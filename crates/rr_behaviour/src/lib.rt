@@ -19,6 +19,7 @@
 //! ```
 #![tactic(auto)]
 
+mod answers;
 mod decisions;
 mod due;
 mod entering;
@@ -31,5 +32,6 @@ mod start;
 mod submit;
 mod tick;
 
-pub use input::{input_refusal, input_step};
+pub use answers::{Counted, answer_of};
+pub use input::{due_step, input_refusal, input_step};
 pub use start::started;

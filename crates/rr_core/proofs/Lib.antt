@@ -12,3 +12,4 @@ pub mod CoveredLemmas
 pub mod MarkOfLemmas
 mod KnowingLaws
 mod OpeningLaws
+pub mod CountLemmas

@@ -111,7 +111,7 @@ pub advanced_marked : (s : NodeState) → (advanced s).marked ≡ s.marked
 advanced_marked s = (advanced_step s).marked
 
 -- a changed tally
-tally_quiet : (i : ℕ) (change : Tally → Tally) (s : NodeState) → IsQuiet s (change_tally i change s)
+pub tally_quiet : (i : ℕ) (change : Tally → Tally) (s : NodeState) → IsQuiet s (change_tally i change s)
 tally_quiet i change s = by (row_of s.rows i) refl
   where
     stays : (row : Row) → row_of s.rows i ≡ Some row → (j : ℕ) (b : Bool) → eqb i j ≡ b → cond b (Some row.standing) (standing_of_rows s.rows j) ≡ standing_of_rows s.rows j

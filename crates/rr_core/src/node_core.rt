@@ -1,12 +1,15 @@
 //! The core of a node: a state machine without input and output.
 
 ghost use Rattle.std.specs.Prelude.{◌≡◌, ◌≢◌, ◌^◌, ◌<◌, ◌≤◌, ◌⊎◌, true, None, Some, Err, [], length, slice_get, IfOk, IfErr, IfSome, IsSome, MatchOption, OnOk, OnErr};
-ghost use Rattle.rr_model.specs.NodeState.{decided_prefix};
 ghost use Rattle.rr_model.specs.NodeStep.{node_step, input_refusal, refusal_of, group_taken, running_group, group_put_back, marked_running, next_leaving, message_left, next_acknowledged, acknowledged, started};
 ghost use Rattle.rr_types.specs.declared.refusal.Refusal.{Refusal};
 ghost use Rattle.rr_types.specs.Promises.{all_fit};
 ghost use Rattle.rr_types.specs.Registry.{registry_of, reply_of};
 ghost use Rattle.rr_step.specs.Steps.{combined};
+ghost use Rattle.rr_model.specs.NodeState.{decided_prefix, next_number};
+ghost use Rattle.rr_model.specs.NodeDue.{settle};
+ghost use Rattle.rr_list.specs.Answered.{is_open_row};
+ghost use Rattle.rr_behaviour.specs.Answering.{counted};
 ghost use Rattle.rr_behaviour.specs.Changes.{is_repeated};
 ghost use Rattle.rr_core.specs.Taken.{CanBeTaken};
 ghost use Rattle.rr_core.specs.Covered.{LeavesCovered};
@@ -17,7 +20,7 @@ use crate::group::{commands_after, is_running_group, mark_running, put_back, tak
 use crate::leaving::{Searched, is_any_answered, take_acknowledged, take_leaving};
 use crate::mark::Mark;
 use crate::prefix::registry_of_prefix;
-use rr_behaviour::{input_refusal, input_step, started};
+use rr_behaviour::{Counted, answer_of, due_step, input_refusal, input_step, started};
 use rr_journal::{Opened, Synced};
 use rr_registry::{Entries, Registry};
 use rr_step::{Changes, State};
@@ -134,6 +137,39 @@ impl Core {
         }
     }
 
+    /// The core does all that is due.
+    fn settle(&mut self, room: Box<Changes>) -> Result<(), Refusal>
+        ensures ok { OnOk result (self.new ≡ settle self.old) }
+        ensures room { OnOk result (next_number (settle self.old) < 2 ^ 64) }
+        ensures refused { IfErr result (λ e. (e ≡ Refusal.OutOfMemory) ⊎ ((e ≡ Refusal.TooLarge) × (2 ^ 64 ≤ next_number (settle self.old)))) }
+        ensures err { OnErr result (self.new ≡ self.old) }
+    {
+        match due_step(&self.state, room) {
+            Ok(changes) => Ok(self.commit(changes)?),
+            Err(refusal) => Err(refusal),
+        }
+    }
+
+    /// An answer is counted in place, and all that is due then is done. After a refusal the answer is taken back.
+    fn count(&mut self, answer: &Counted, room: Box<Changes>) -> Result<(), Refusal>
+        requires { is_open_row self.old.rows answer.now.instance ≡ true }
+        ensures ok { OnOk result (self.new ≡ settle (counted answer.now self.old)) }
+        ensures room { OnOk result (next_number (settle (counted answer.now self.old)) < 2 ^ 64) }
+        ensures refused { IfErr result (λ e. (e ≡ Refusal.OutOfMemory) ⊎ ((e ≡ Refusal.TooLarge) × (2 ^ 64 ≤ next_number (settle (counted answer.now self.old))))) }
+        ensures err { OnErr result (self.new ≡ self.old) }
+    {
+        let before = self
+            .state
+            .count(answer.instance, answer.sender, &answer.answer)?;
+        match self.settle(room) {
+            Ok(()) => Ok(()),
+            Err(refusal) => {
+                self.state.uncount(answer.instance, &before);
+                Err(refusal)
+            }
+        }
+    }
+
     /// The node is told this. It is refused for what it is even where memory runs out: a new command while all instances
     /// are decided here is `ListFull`, and an advance out of the last round `RoundsOut`. It is `TooLarge` where a fact
     /// would have no number.
@@ -149,6 +185,10 @@ impl Core {
         }
         let is_held = self.is_repeated(input);
         let room = self.take_room()?;
+        let (answer, room) = answer_of(&self.state, room, input);
+        if let Some(answer) = answer {
+            return self.count(&answer, room);
+        }
         match input_step(&self.state, room, self.alloc, input, is_held) {
             Ok(changes) => Ok(self.commit(changes)?),
             Err(refusal) => Err(refusal),

@@ -7,3 +7,4 @@ pub mod PrefixLemmas
 pub mod RestoreLemmas
 pub mod OpenLemmas
 pub mod ListedLemmas
+pub mod AnswerLemmas

@@ -3,3 +3,4 @@ pub mod Arrived
 pub mod Rowed
 pub mod Marked
 pub mod Opened
+pub mod Answered

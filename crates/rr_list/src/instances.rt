@@ -1,11 +1,13 @@
 //! The table of instances.
 
-ghost use Rattle.std.specs.Prelude.{◌≡◌, ◌≤◌, ◌&&◌, ◌++◌, [], None, Some, map, length, slice_get, nat_lt, IfOk, OnOk, OnErr, MatchOption};
+ghost use Rattle.std.specs.Prelude.{◌≡◌, ◌≤◌, ◌&&◌, ◌++◌, [], None, Some, true, map, length, slice_get, nat_lt, IfOk, OnOk, OnErr, MatchOption};
 ghost use Rattle.std.specs.List.{list_any};
 ghost use Rattle.rr_types.specs.Promises.{IsAscending, take_on_all, decided_from};
 ghost use Rattle.rr_types.specs.Limits.{instance_count};
 ghost use Rattle.rr_model.specs.NodeState.{row_of, is_decided, undecided_from};
 ghost use Rattle.rr_model.specs.NodeStep.{promised_row};
+ghost use Rattle.rr_parts.specs.Answers.{answered, unheard};
+ghost use Rattle.rr_list.specs.Answered.{is_open_row, tallied};
 ghost use Rattle.rr_list.specs.Listed.{put_rows, KeepsDecisions, KeepsPromised, HaveRows, AllInRound};
 ghost use Rattle.rr_list.specs.Rowed.{AscendFrom, has_decided};
 ghost use Rattle.rr_list.specs.Opened.{open_in};
@@ -13,8 +15,8 @@ ghost use Rattle.rr_list.specs.Opened.{open_in};
 use crate::marks::Marks;
 use crate::open_instances::OpenInstances;
 use crate::rows::{Rows, is_any_decided};
-use rr_parts::Row;
-use rr_types::{Command, Fact, Instance, Kept, Op, RequestNo, Standing};
+use rr_parts::{Answer, Before, Row};
+use rr_types::{Command, Fact, Instance, Kept, NodeId, Op, RequestNo, Standing};
 use std::alloc::{AllocError, Global};
 use std::marker::Model;
 
@@ -136,6 +138,29 @@ impl Instances {
             }
             Err(refusal) => Err(refusal),
         }
+    }
+
+    /// Keeps an answer in the row of an open instance, and gives what takes it back. Only an estimate needs memory.
+    pub fn keep(
+        &mut self,
+        instance: Instance,
+        sender: NodeId,
+        answer: &Answer,
+    ) -> Result<Before, AllocError>
+        requires { is_open_row self.old.rows instance ≡ true }
+        ensures ok { OnOk result (self.new ≡ record self.old { rows = tallied instance (answered sender answer.now) self.old.rows }) }
+        ensures back { IfOk result (λ before. record self.new { rows = tallied instance (unheard before) self.new.rows } ≡ self.old) }
+        ensures kept { OnErr result (self.new ≡ self.old) }
+    {
+        self.rows.keep(instance.number(), sender, answer)
+    }
+
+    /// Takes back the answer in the row of an open instance. It needs no memory.
+    pub fn take_back(&mut self, instance: Instance, before: &Before)
+        requires { is_open_row self.old.rows instance ≡ true }
+        ensures { self.new ≡ record self.old { rows = tallied instance (unheard before.now) self.old.rows } }
+    {
+        self.rows.take_back(instance.number(), before);
     }
 
     /// How many commands the decided prefix has.

@@ -1,6 +1,6 @@
 //! The rows of the instances that the facts name, and what these have decided.
 
-ghost use Rattle.std.specs.Prelude.{◌≡◌, ◌<◌, ◌≤◌, ◌&&◌, ℕ, List, [], ◌∷◌, map, option_map, Some, None, nat_lt, IsTrue, IfSome, IfOk, OnOk, OnErr, MatchOption};
+ghost use Rattle.std.specs.Prelude.{◌≡◌, ◌<◌, ◌≤◌, ◌&&◌, ℕ, List, [], ◌∷◌, map, option_map, Some, None, true, nat_lt, IsTrue, IfSome, IfOk, OnOk, OnErr, MatchOption};
 ghost use Rattle.std.specs.List.{list_any, All};
 ghost use Rattle.std.specs.Ordering.{nat_cmp};
 ghost use Rattle.rr_types.specs.declared.command.RequestNo.{RequestNo};
@@ -10,12 +10,14 @@ ghost use Rattle.rr_model.specs.NodeState.{row_of, put_row, is_decided, decided_
 ghost use Rattle.rr_model.specs.NodeState as model;
 ghost use Rattle.rr_model.specs.NodeStep.{promised_row};
 ghost use Rattle.rr_places.specs.Places.{filled, has_place};
+ghost use Rattle.rr_parts.specs.Answers.{answered, unheard};
+ghost use Rattle.rr_list.specs.Answered.{is_open_row, tallied};
 ghost use Rattle.rr_list.specs.Listed.{put_rows, decision_at, KeepsDecisions};
 ghost use Rattle.rr_list.specs.Rowed.{EachKeeps, rows_in, AreKeyed, AscendFrom, AreInstances, has_decided, has_request_place, HavePlaces, IsNoted};
 
-use rr_parts::Row;
+use rr_parts::{Answer, Before, Row};
 use rr_places::{Numbered, drop_free_place, make_place, put, value_at};
-use rr_types::{Command, Instance, Kept, Op, RequestNo};
+use rr_types::{Command, Instance, Kept, NodeId, Op, RequestNo};
 use std::alloc::{AllocError, Global};
 use std::collections::BTreeMap;
 use std::marker::Model;
@@ -389,6 +391,44 @@ impl Rows {
                 drop_request_places(&mut self.requests, &rows);
                 Err(refusal)
             }
+        }
+    }
+
+    /// Keeps an answer in the row of an open instance, and gives what takes it back. Only an estimate needs memory.
+    pub(crate) fn keep(
+        &mut self,
+        number: u32,
+        sender: NodeId,
+        answer: &Answer,
+    ) -> Result<Before, AllocError>
+        requires { is_open_row self.old number ≡ true }
+        ensures ok { OnOk result (self.new ≡ tallied number (answered sender answer.now) self.old) }
+        ensures back { IfOk result (λ before. tallied number (unheard before) self.new ≡ self.old) }
+        ensures kept { OnErr result (self.new ≡ self.old) }
+    {
+        match self.rows.take(number) {
+            Some(row) => {
+                let mut row = row;
+                let kept = row.keep(sender, answer);
+                self.rows.put(number, row);
+                kept
+            }
+            None => unreachable!(),
+        }
+    }
+
+    /// Takes back the answer in the row of an open instance. It needs no memory.
+    pub(crate) fn take_back(&mut self, number: u32, before: &Before)
+        requires { is_open_row self.old number ≡ true }
+        ensures { self.new ≡ tallied number (unheard before.now) self.old }
+    {
+        match self.rows.take(number) {
+            Some(row) => {
+                let mut row = row;
+                row.take_back(before);
+                self.rows.put(number, row);
+            }
+            None => unreachable!(),
         }
     }
 }

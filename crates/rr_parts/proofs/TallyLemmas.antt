@@ -1,7 +1,7 @@
 -- The loops over votes put one where its sender belongs, and find the best one.
 use Rattle.std.proofs.Common.{◌≡◌, ◌+◌, ◌<◌, ◌≤◌, ℕ, Some, if◌then◌else◌, arith, Bool, true, false, ltb, eqb, cond, List, [], ◌∷◌, ◌++◌, length, get_or, take, drop, ap, sym, ◌∙◌, refl, append_assoc}
-use Rattle.std.specs.List.{insert}
-use Rattle.std.proofs.lemmas.List.{drop_all, drop_more, take-append-drop, take_more}
+use Rattle.std.specs.List.{insert, remove}
+use Rattle.std.proofs.lemmas.List.{append-nil, drop_all, drop_more, take_all, take-append-drop, take_more}
 use Rattle.std.proofs.lemmas.Bool.{lt-ltb, le-ltb, lt-leb, ne_eqb, eq-eqb}
 use Rattle.std.specs.Prelude.{filter, zero, suc, ◌^◌}
 use Rattle.std.specs.List.{range_with_len}
@@ -52,6 +52,16 @@ pub vote_last : (v : Vote) (ws : List Vote) (k : ℕ) → length ws ≤ k → k 
 vote_last v ws k l m p =
     let none : drop k ws ≡ [] = drop_all k ws l in
     p ∙ ap (λ (r : List Vote). take k ws ++ with_vote v r) none ∙ ap (λ (r : List Vote). take k ws ++ v ∷ r) (sym none)
+
+-- a vote that was put at a place is removed there again
+pub removed_again : (ws : List Vote) (k : ℕ) (v : Vote) → k ≤ length ws → remove (insert ws k v) k ≡ ws
+removed_again ws zero v l = refl
+removed_again [] (suc k) v l = absurd (omega (arith, l))
+removed_again (w ∷ ws) (suc k) v l = ap (λ (r : List Vote). w ∷ r) (removed_again ws k v (omega (arith, l)))
+
+-- nothing is removed behind the last one
+pub removed_beyond : (ws : List Vote) (k : ℕ) → length ws ≤ k → remove ws k ≡ ws
+removed_beyond ws k l = rw (take_all k ws l, drop_all ws (suc k) (omega (arith, l))) (append-nil ws)
 
 -- the vote at a place, and the best of those behind it
 pub best_more : (vs : List Vote) (k j : ℕ) (v : Vote) → j ≡ k + 1 → k < length vs → v ≡ get_or vs k v → Some (better v (best_vote (drop j vs))) ≡ best_vote (drop k vs)

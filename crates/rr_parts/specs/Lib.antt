@@ -7,3 +7,4 @@ pub mod Votes
 pub mod Owing
 pub mod Same
 pub mod Staging
+pub mod Answers

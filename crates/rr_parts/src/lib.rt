@@ -5,8 +5,9 @@
 //!   and the node itself, which spoke, is not. `Heartbeat` is told by `tick` and `heard`, and asked by `suspects`. `Suspects`,
 //!   the reduction, is told by `receive`, and asked by `output`.
 //! - An instance over its rounds. A `Row` says where it stands and which facts back its messages. `first` or `promised` makes it,
-//!   `after` takes a fact on, and `with_estimate`, `with_ack`, `with_nack` an answer. Its `Tally` is what the coordinator heard:
-//!   `pick`, `is_acknowledged` and `is_answered` say whether a majority has spoken.
+//!   `after` takes a fact on, and `with_estimate`, `with_ack`, `with_nack` an answer. `keep` counts an answer in place, and
+//!   `take_back` undoes that. Its `Tally` is what the coordinator heard: `pick`, `is_acknowledged` and `is_answered` say whether
+//!   a majority has spoken.
 //! - What a node owes and has promised. `Unmarked` has the facts: `push_all` stages them, `run` makes a group of the oldest,
 //!   `put_back` or `drop_running` ends it. `Outbox` has the messages: `owe_all` adds, `take_leaving` gives the oldest that is free
 //!   or whose fact is marked.
@@ -37,6 +38,7 @@ ghost use Rattle.rr_model.specs.NodeState.{Vote};
 ghost use Rattle.rr_parts.specs.Votes.{KeepsFirsts};
 
 mod backing;
+mod heard;
 mod heartbeat;
 mod outbox;
 mod owed;
@@ -48,6 +50,7 @@ mod unmarked;
 mod watch;
 
 pub use backing::Backing;
+pub use heard::{Answer, Before};
 pub use heartbeat::Heartbeat;
 pub use outbox::Outbox;
 pub use owed::Owed;

@@ -1,6 +1,6 @@
 //! The row of an instance.
 
-ghost use Rattle.std.specs.Prelude.{◌≡◌, ◌-◌, ◌<◌, ◌≤◌, ◌^◌, true, None, Some, MatchOption, IfOk, IsOk, IsTrue};
+ghost use Rattle.std.specs.Prelude.{◌≡◌, ◌-◌, ◌<◌, ◌≤◌, ◌^◌, true, false, None, Some, MatchOption, IfOk, OnOk, OnErr, IsOk, IsTrue};
 ghost use Rattle.rr_types.specs.declared.promise.Standing.TheVariants as stands;
 ghost use Rattle.rr_types.specs.Facts.{instance_of, after_fact};
 ghost use Rattle.rr_types.specs.Standings.{round_of, IsInRound};
@@ -10,9 +10,11 @@ ghost use Rattle.rr_model.specs.NodeState.{is_decided, decided_command};
 ghost use Rattle.rr_model.specs.NodeState as model;
 ghost use Rattle.rr_model.specs.NodeParts.{backing_after, row_after, fresh_row};
 ghost use Rattle.rr_model.specs.NodeStep.{promised_row, with_vote};
+ghost use Rattle.rr_parts.specs.Answers.{answered, unheard};
 ghost use Rattle.rr_parts.specs.Rows.{is_short, is_decide};
 
 use crate::backing::{Backing, ShortBacking};
+use crate::heard::{Answer, Before};
 use crate::tally::Tally;
 use rr_types::{Command, Estimate, Fact, Instance, Kept, NodeId, OpenStanding, Standing};
 use std::alloc::{AllocError, Global};
@@ -265,6 +267,31 @@ impl Row {
         let mut parts = self.parts(alloc)?;
         parts.tally.keep_nack(sender);
         Row::full(alloc, self.instance, parts)
+    }
+
+    /// Keeps an answer to the round of an open instance, and gives what takes it back. Only an estimate needs memory.
+    pub fn keep(&mut self, sender: NodeId, answer: &Answer) -> Result<Before, AllocError>
+        requires { is_decided self.old ≡ false }
+        ensures ok { OnOk result (self.new ≡ record self.old { tally = answered sender answer.now self.old.tally }) }
+        ensures back { IfOk result (λ before. unheard before self.new.tally ≡ self.old.tally) }
+        ensures kept { OnErr result (self.new ≡ self.old) }
+        ensures rest { self.new ≡ record self.old { tally = self.new.tally } }
+    {
+        match &mut self.form {
+            Form::Short(_) => unreachable!(),
+            Form::Full(parts) => parts.tally.keep(sender, answer),
+        }
+    }
+
+    /// Takes back the answer to the round of an open instance. It needs no memory.
+    pub fn take_back(&mut self, before: &Before)
+        requires { is_decided self.old ≡ false }
+        ensures { self.new ≡ record self.old { tally = unheard before.now self.old.tally } }
+    {
+        match &mut self.form {
+            Form::Short(_) => unreachable!(),
+            Form::Full(parts) => parts.tally.take_back(before),
+        }
     }
 
     /// Whether the instance has decided.

@@ -6,6 +6,7 @@ ghost use Rattle.rr_types.specs.Nodes.{has_member, with_member, joined};
 ghost use Rattle.rr_model.specs.NodeState.{no_votes};
 ghost use Rattle.rr_model.specs.NodeStep.{with_vote};
 ghost use Rattle.rr_model.specs.NodeDue.{better, best_vote, pick};
+ghost use Rattle.rr_parts.specs.Answers.{without_at};
 ghost use Rattle.rr_parts.specs.Majorities.{has_majority};
 
 use rr_types::{Command, Estimate, NodeId, NodeSet, Nodes, Op, made_of, majority};
@@ -64,15 +65,18 @@ fn vote_place(votes: &[Vote], vote: Vote) -> Option<usize>
     Some(votes.len())
 }
 
-/// Keeps a vote, in the order of senders; of each sender the first is kept.
-fn put_vote(votes: &mut Vec<Vote>, vote: Vote) -> Result<(), AllocError>
+/// Keeps a vote, in the order of senders; of each sender the first is kept. It gives the place of one that is kept.
+#[tactic(auto, using(crate::proofs::TallyLemmas::removed_again))]
+fn put_vote(votes: &mut Vec<Vote>, vote: Vote) -> Result<Option<usize>, AllocError>
     ensures ok { OnOk result (votes.new.items ≡ with_vote vote votes.old.items) }
+    ensures place { IfOk result (λ place. without_at place votes.new.items ≡ votes.old.items) }
     ensures kept { OnErr result (votes.new.items ≡ votes.old.items) }
 {
-    if let Some(at) = vote_place(votes, vote) {
+    let place = vote_place(votes, vote);
+    if let Some(at) = place {
         votes.insert(at, vote)?;
     }
-    Ok(())
+    Ok(place)
 }
 
 /// The better of two votes: the larger stamp, and of equal stamps the one that stands first.
@@ -128,9 +132,14 @@ impl Tally {
         })
     }
 
-    /// Keeps an estimate; the first of a sender is kept.
-    pub fn keep_estimate(&mut self, sender: NodeId, estimate: &Estimate) -> Result<(), AllocError>
+    /// Keeps an estimate; the first of a sender is kept. It gives the place of one that is kept.
+    pub fn keep_estimate(
+        &mut self,
+        sender: NodeId,
+        estimate: &Estimate,
+    ) -> Result<Option<usize>, AllocError>
         ensures ok { OnOk result (self.new ≡ record self.old { estimates = with_vote (record { sender = sender; stamp = estimate.now.stamp; command = estimate.now.command }) self.old.estimates }) }
+        ensures place { IfOk result (λ place. without_at place self.new.estimates ≡ self.old.estimates) }
         ensures kept { OnErr result (self.new ≡ self.old) }
     {
         let vote = Vote {

@@ -1,5 +1,5 @@
 -- Places by number: a vector, and a tree behind it.
-use Rattle.std.proofs.Common.{◌≡◌, ℕ, zero, suc, ◌+◌, ◌-◌, ◌<◌, ◌≤◌, Bool, true, false, cond, ◌||◌, IsTrue, List, [], ◌∷◌, ◌++◌, length, slice_get, slice_set, slice_index_or, Option, None, Some, Result, Ok, Err, OnOk, OnErr, is_some, Ordering, refl, sym, ap, ◌∙◌, subst, arith}
+use Rattle.std.proofs.Common.{◌≡◌, ℕ, zero, suc, ◌+◌, ◌-◌, ◌<◌, ◌≤◌, Bool, true, false, cond, ◌||◌, IsTrue, List, [], ◌∷◌, ◌++◌, length, slice_get, slice_set, slice_index_or, Option, None, Some, Result, Ok, Err, OnOk, OnErr, MatchOption, is_some, Ordering, refl, sym, ap, ◌∙◌, subst, arith}
 use Rattle.std.specs.declared.cmp.Ordering.TheVariants.{Less, Equal, Greater}
 use Rattle.std.specs.Ordering.{nat_cmp, is_eq}
 use Rattle.std.specs.List.{AllByRecursion}
@@ -263,6 +263,41 @@ module _ {V : Type 0} where
 
   pub free_put : (k : ℕ) (es : List (ℕ × Option V)) → has_place nat_cmp es k ≡ false → filled (insert_entry nat_cmp es k None) ≡ filled es
   free_put k es n = filled-free nat_cmp k es (none_of (lookup (is_at (nat_cmp k)) es) n)
+
+module _ {V : Type 0} where
+  -- of two values written at one number the last stays
+  inserted_twice : (k : ℕ) (u v : V) (es : List (ℕ × V)) → insert_entry nat_cmp (insert_entry nat_cmp es k u) k v ≡ insert_entry nat_cmp es k v
+  inserted_twice k u v [] = rw (at_equal k) refl
+  inserted_twice k u v (e ∷ es) = at (inserted_twice k u v es) (nat_cmp k e.0) refl
+    where
+      at : insert_entry nat_cmp (insert_entry nat_cmp es k u) k v ≡ insert_entry nat_cmp es k v → (r : Ordering) → nat_cmp k e.0 ≡ r → insert_entry nat_cmp (insert_entry nat_cmp (e ∷ es) k u) k v ≡ insert_entry nat_cmp (e ∷ es) k v
+      at more Less r = rw (r, at_equal k) refl
+      at more Equal r = rw (r, r) refl
+      at more Greater r = rw (r, r) (ap (λ xs. e ∷ xs) more)
+
+module _ {V : Type 0} (k : ℕ) (es new : List (ℕ × Option V)) (written : new ≡ insert_entry nat_cmp es k None) (sorted : IsStrictlySortedBy nat_cmp (keys_of es)) where
+  -- a value is taken from its place
+  pub value_taken : filled new ≡ put_entry nat_cmp (filled es) k None
+  value_taken = ap filled written ∙ filled-put nat_cmp nat_cmp_total exact_numbers k None es sorted
+
+  -- and another one put there is put among the values before
+  pub put_again : IsStrictlySortedBy nat_cmp (keys_of new) → (v : V) → put_entry nat_cmp (filled new) k (Some v) ≡ put_entry nat_cmp (filled es) k (Some v)
+  put_again ascend v =
+      sym (value_put k v new ascend) ∙ ap (λ xs. filled (insert_entry nat_cmp xs k (Some v))) written
+      ∙ ap filled (inserted_twice k None (Some v) es) ∙ value_put k v es sorted
+
+  pub places_stay : IsTrue (has_place nat_cmp es k) → (q : ℕ) → has_place nat_cmp new q ≡ has_place nat_cmp es q
+  places_stay there q = ap (λ xs. has_place nat_cmp xs q) written ∙ place_same k q None es there
+
+-- what a look-up finds, by its cases
+pub match_same : {V : Type 0} → (r o : Option V) → o ≡ r → MatchOption r (o ≡ None) (λ v. o ≡ Some v)
+match_same None o h = h
+match_same (Some v) o h = h
+
+-- what a number's place in the tree holds
+pub value_behind : {V : Type 0} → (k : ℕ) (low : List (Option V)) (high : List (ℕ × Option V)) (o : Option V) → AscendFrom (length low) high → length low ≤ k → lookup (is_at (nat_cmp k)) high ≡ Some o → lookup (is_at (nat_cmp k)) (filled (numbered 0 low ++ high)) ≡ o
+value_behind k low high o h l there =
+    value_high k low high h l ∙ lookup-filled nat_cmp nat_cmp_total k high (sorted_high (length low) high h) ∙ ap joined there
 
 pub on_ok : {A E : Type 0} {P Q : Type 0} → (r : Result A E) → (P → Q) → OnOk r P → OnOk r Q
 on_ok (Ok a) f h = f h

@@ -12,6 +12,7 @@ use crate::places::value_of;
 use std::alloc::{AllocError, Global};
 use std::collections::BTreeMap;
 use std::marker::Model;
+use std::mem;
 
 /// A map from numbers in which a number may have a place before it has a value. Numbers without a gap, from 0 on,
 /// stand in a vector, and the others in a tree: where they come in order, each place is found by its index.
@@ -142,6 +143,28 @@ impl<V: Drop> Numbered<V> {
     {
         match self.write(number, Some(value)) {
             Ok(()) => (),
+            Err(_) => unreachable!(),
+        }
+    }
+
+    /// Takes the value at a number, whose place stays, free. It needs no memory.
+    #[inline(always)]
+    pub fn take(&mut self, number: u32) -> Option<V>
+        requires { IsTrue (has_place nat_cmp self.old number) }
+        ensures value { MatchOption result
+            (lookup (is_at (nat_cmp number)) (filled self.old) ≡ None)
+            (λ v. lookup (is_at (nat_cmp number)) (filled self.old) ≡ Some v) }
+        ensures filled { filled self.new ≡ put_entry nat_cmp (filled self.old) number None }
+        ensures again { (v : V) → put_entry nat_cmp (filled self.new) number (Some v) ≡ put_entry nat_cmp (filled self.old) number (Some v) }
+        ensures places { (q : ℕ) → has_place nat_cmp self.new q ≡ has_place nat_cmp self.old q }
+    {
+        let at = number as usize;
+        if at < self.low.len() {
+            return mem::replace(&mut self.low[at], None);
+        }
+        match self.high.insert(number, None) {
+            Ok(Some(place)) => place,
+            Ok(None) => unreachable!(),
             Err(_) => unreachable!(),
         }
     }

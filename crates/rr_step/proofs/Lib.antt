@@ -7,3 +7,4 @@ pub mod SpentLemmas
 pub mod SettledLemmas
 pub mod StandLemmas
 pub mod StageLemmas
+pub mod CountLemmas

@@ -26,6 +26,7 @@
 #![tactic(auto)]
 
 mod absorb;
+mod answers;
 mod copies;
 mod estimates;
 mod known;

@@ -1,6 +1,6 @@
 //! A step of a node: the node as it was before, borrowed, and what the step has changed.
 
-ghost use Rattle.std.specs.Prelude.{◌≡◌, ◌++◌, ◌∷◌, [], ◌^◌, ◌<◌, ◌&&◌, nat_lt, true, None, Some, IsTrue, option_map, MatchOption, IfOk, IfSome, OnOk};
+ghost use Rattle.std.specs.Prelude.{◌≡◌, ◌++◌, ◌∷◌, [], ◌^◌, ◌<◌, ◌&&◌, ◌||◌, nat_lt, true, None, Some, IsTrue, option_map, MatchOption, IfOk, IfSome, OnOk};
 ghost use Rattle.std.specs.List.{list_any};
 ghost use Rattle.rr_types.specs.Registry.{has_request};
 ghost use Rattle.rr_types.specs.Facts.{instance_of, after_fact, decision_of};
@@ -297,6 +297,13 @@ impl<'a> Step<'a> {
         has_come && !is_among(&self.changes.taken, request)
     }
 
+    /// Whether the pool has a command with this request number, or some instance has decided one.
+    pub fn knows(&self, request: RequestNo) -> bool
+        ensures { result ≡ (has_request self.now.state.pool request || is_decided_request self.now.state request) }
+    {
+        self.has_pooled(request) || self.is_decided_request(request)
+    }
+
     /// The first pool command that is no estimate of one of these instances but one.
     #[tactic(auto, using(crate::proofs::PoolLemmas::free_in_base, crate::proofs::PoolLemmas::free_in_pooled))]
     pub fn first_free(&self, instances: &[Instance], instance: Instance) -> Option<Command>
@@ -378,7 +385,7 @@ impl<'a> Step<'a> {
         ensures ok { OnOk result (self.new ≡ stepped (pool_add command.now) self.old) }
     {
         made_of!(Op);
-        if self.has_pooled(command.request) || self.is_decided_request(command.request) {
+        if self.knows(command.request) {
             return Ok(());
         }
         self.changes.pooled.push(*command)?;
