@@ -16,7 +16,7 @@ unfolding node_step
 step_is input s = refl
 
 -- where an input is allowed for what it is, the next number tells
-allowed : (input : Input) (s : NodeState) → input_refusal input s ≡ None → next_number (node_step input s) < 2 ^ 64 → refusal_of input s ≡ None
+pub allowed : (input : Input) (s : NodeState) → input_refusal input s ≡ None → next_number (node_step input s) < 2 ^ 64 → refusal_of input s ≡ None
 unfolding refusal_of
 allowed input s e l = let t : ltb (next_number (node_step input s)) (2 ^ 64) ≡ true = lt-ltb _ _ l in rw (e, t) refl
 

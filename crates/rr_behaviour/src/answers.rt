@@ -105,7 +105,7 @@ fn of_message(step: &Step<'_>, message: &Message) -> Option<Counted>
 fn is_answer(input: &Input) -> bool {
     match input {
         Input::Hear(message) => matches!(
-            message.body,
+            &message.body,
             Body::Estimate(..) | Body::Ack(..) | Body::Nack(..)
         ),
         _ => false,

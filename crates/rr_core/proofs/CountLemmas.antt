@@ -1,9 +1,16 @@
 -- An answer that is counted in the state leaves the core as lawful as it was.
-use Rattle.std.proofs.Common.{◌≡◌, ◌^◌, ◌<◌, ℕ, Bool, subst, sym, ap, ◌∙◌, refl, Option, Some, None}
+use Rattle.std.proofs.Common.{◌≡◌, ◌^◌, ◌<◌, ◌≤◌, ◌⊎◌, ℕ, Bool, subst, sym, ap, ◌∙◌, refl, Option, Some, None, Result, Ok, Err, OnOk, OnErr, IfErr}
 use Rattle.std.specs.Option.{option_map_or}
 use Rattle.rr_registry.specs.Kept.{Kept}
 use Rattle.rr_model.specs.NodeState.{NodeState, Row, Tally, row_of, put_row, next_number, decided_prefix}
-use Rattle.rr_model.specs.NodeStep.{change_tally}
+use Rattle.rr_types.specs.declared.input.Input.{Input}
+use Rattle.rr_types.specs.declared.refusal.Refusal.{Refusal}
+use Rattle.rr_types.specs.declared.refusal.Refusal.TheVariants.{TooLarge, OutOfMemory}
+use Rattle.rr_model.specs.NodeDue.{settle}
+use Rattle.rr_model.specs.NodeStep.{change_tally, taken_in, node_step, input_refusal, refusal_of}
+use Rattle.rr_behaviour.specs.declared.answers.Counted.{Counted}
+use Rattle.rr_behaviour.specs.Answering.{counted, IsAllAtOnce}
+use Rattle.rr_behaviour.proofs.InputSteps.{step_is, allowed, refused_of}
 use Rattle.rr_core.specs.Kept.{IsKept}
 use Rattle.rr_core.specs.Lawful.{IsLawful}
 use Rattle.rr_core.specs.Marks.{Marked, mark_of}
@@ -24,3 +31,26 @@ counted_holds registry count stale mark i f s h = at (row_of s.rows i) ((quiet_s
     at : (o : Option Row) → IsLawful (changed o) → Holds registry count stale mark (changed o)
     at None l = h
     at (Some row) l = (record { lawful = l; room = h.0.room; kept = h.0.kept }, record { within = h.1.within; none = h.1.none }, h.2)
+
+-- whether memory was there or wanting
+pub counted_any : {B E : Type 0} → (registry : Kept) (count : ℕ) (stale : Bool) (mark : Marked) (i : ℕ) (f : Tally → Tally) (s t : NodeState) (r : Result B E) → OnOk r (t ≡ change_tally i f s) → OnErr r (t ≡ s) → Holds registry count stale mark s → Holds registry count stale mark t
+counted_any registry count stale mark i f s t (Ok b) ok err h = rw ok (counted_holds registry count stale mark i f s h)
+counted_any registry count stale mark i f s t (Err e) ok err h = rw err h
+
+module _ (input : Input) (s : NodeState) (a : Counted) (all : IsAllAtOnce s (taken_in input s) a) where
+  -- what is due behind the answer makes the node's step
+  pub count_steps : settle (counted a s) ≡ node_step input s
+  count_steps = ap settle (sym all.done) ∙ sym (step_is input s)
+
+  pub count_ok : {B E : Type 0} → (t : NodeState) (r : Result B E) → OnOk r (t ≡ settle (counted a s)) → OnOk r (t ≡ node_step input s)
+  count_ok t (Ok b) h = h ∙ count_steps
+  count_ok t (Err e) h = h
+
+  pub count_allowed : {B E : Type 0} → (r : Result B E) → input_refusal input s ≡ None → OnOk r (next_number (settle (counted a s)) < 2 ^ 64) → OnOk r (refusal_of input s ≡ None)
+  count_allowed (Ok b) none h = allowed input s none (subst (λ (t : NodeState). next_number t < 2 ^ 64) count_steps h)
+  count_allowed (Err e) none h = h
+
+  pub count_refused : {B : Type 0} → (r : Result B Refusal) → input_refusal input s ≡ None → IfErr r (λ e. (e ≡ OutOfMemory) ⊎ ((e ≡ TooLarge) × (2 ^ 64 ≤ next_number (settle (counted a s))))) → IfErr r (λ e. (e ≡ OutOfMemory) ⊎ (refusal_of input s ≡ Some e))
+  count_refused r none h =
+      refused_of input s (record { base = s; state = taken_in input s }) r refl none
+      (subst (λ (t : NodeState). IfErr r (λ e. (e ≡ OutOfMemory) ⊎ ((e ≡ TooLarge) × (2 ^ 64 ≤ next_number (settle t))))) (sym all.done) h)

@@ -158,6 +158,11 @@ found_open es i r k h e =
     let o = open_row (rows_in es) i h in
     (there, ap (λ (q : Row). is_decided q) (same_Some r o.0 (sym there ∙ o.1)) ∙ o.2)
 
+pub not_missing : (es : List (ℕ × Row)) (i : ℕ) → AreKeyed es → is_open_row (rows_in es) i ≡ true → lookup (is_at (nat_cmp i)) es ≡ None → ⊥
+not_missing es i k h e =
+    let o = open_row (rows_in es) i h in
+    none-some o.0 (sym (row_at es i k ∙ e) ∙ o.1)
+
 -- the table with the row
 pub table_tallied : (es taken new : List (ℕ × Row)) (requests : List (RequestNo × Unit {0})) (end i : ℕ) (r a : Row) → IsTable es requests end → is_open_row (rows_in es) i ≡ true → lookup (is_at (nat_cmp i)) es ≡ Some r → IsTallied r a → ((v : Row) → insert_entry nat_cmp taken i v ≡ insert_entry nat_cmp es i v) → new ≡ insert_entry nat_cmp taken i a → IsTable new requests end × (rows_in new ≡ put_row a (rows_in es))
 table_tallied es taken new requests end i r a h o e same again put =

@@ -61,7 +61,7 @@ removed_again (w ∷ ws) (suc k) v l = ap (λ (r : List Vote). w ∷ r) (removed
 
 -- nothing is removed behind the last one
 pub removed_beyond : (ws : List Vote) (k : ℕ) → length ws ≤ k → remove ws k ≡ ws
-removed_beyond ws k l = rw (take_all k ws l, drop_all ws (suc k) (omega (arith, l))) (append-nil ws)
+removed_beyond ws k l = rw (take_all k ws l, drop_all (suc k) ws (omega (arith, l))) (append-nil ws)
 
 -- the vote at a place, and the best of those behind it
 pub best_more : (vs : List Vote) (k j : ℕ) (v : Vote) → j ≡ k + 1 → k < length vs → v ≡ get_or vs k v → Some (better v (best_vote (drop j vs))) ≡ best_vote (drop k vs)

@@ -40,9 +40,7 @@ fn take_leaving(owed: &mut VecDeque<Owed>, end: u64) -> Option<Owed>
     made_of!(Body, Command, Message, Op);
     for at in 0..owed.len() {
         if is_leaving(&owed[at], end) {
-            let first = owed[at];
-            owed.remove(at);
-            return Some(first);
+            return owed.remove(at);
         }
     }
     None

@@ -385,7 +385,7 @@ impl<'a> Step<'a> {
         ensures ok { OnOk result (self.new ≡ stepped (pool_add command.now) self.old) }
     {
         made_of!(Op);
-        if self.knows(command.request) {
+        if self.has_pooled(command.request) || self.is_decided_request(command.request) {
             return Ok(());
         }
         self.changes.pooled.push(*command)?;
