@@ -8,12 +8,12 @@ use Rattle.rr_types.specs.Standings.{round_of, proposal_of, is_undecided}
 use Rattle.rr_types.specs.declared.message.Body.TheVariants as say
 use Rattle.rr_types.specs.declared.promise.Standing.{Standing}
 use Rattle.rr_types.specs.declared.promise.Standing.TheVariants.{Decided, Open}
-use Rattle.rr_model.specs.NodeState.{NodeState, Row, row_of, standing_at, is_decided, is_open, is_decided_request}
+use Rattle.rr_model.specs.NodeState.{NodeState, Row, Tally, row_of, put_row, standing_at, is_decided, is_open, is_decided_request}
 use Rattle.rr_model.specs.NodeParts.{pool_add}
 use Rattle.rr_model.specs.NodeStep.{change_tally, count_estimate, count_ack, count_nack, catch_up, take_estimate, has_proposed, heard_body}
 use Rattle.rr_parts.specs.Answers.{answered}
 use Rattle.rr_parts.specs.declared.heard.Answer.TheVariants.{Estimate, Ack, Nack}
-use Rattle.rr_list.specs.Answered.{is_open_row}
+use Rattle.rr_list.specs.Answered.{is_open_row, tallied}
 use Rattle.rr_behaviour.specs.declared.answers.Counted.{Counted}
 use Rattle.rr_behaviour.specs.Answering.{counted, IsAllAtOnce}
 
@@ -44,22 +44,30 @@ standing_open s i o h = at (row_of s.rows i) h
     at None e = absurd (cc)
     at (Some q) e = open_by q.standing (ap is_undecided e)
 
+-- of a changed tally the rows alone change
+pub counted_is : (i : ℕ) (f : Tally → Tally) (s : NodeState) → change_tally i f s ≡ record s { rows = tallied i f s.rows }
+counted_is i f s = at (row_of s.rows i)
+  where
+    at : (o : Option Row) → option_map_or (λ (row : Row). record s { rows = put_row (record row { tally = f row.tally }) s.rows }) o s ≡ record s { rows = option_map_or (λ (row : Row). put_row (record row { tally = f row.tally }) s.rows) o s.rows }
+    at None = refl
+    at (Some row) = refl
+
 pub ack_counted : (s : NodeState) (i q r : ℕ) → is_open s i ≡ true → has_proposed i r s ≡ true → IsAllAtOnce s (heard_body q (say.Ack i r) s) (record { instance = i; sender = q; answer = Ack })
 unfolding heard_body count_ack
-ack_counted s i q r a b = record { there = proposed_open s i r b; done = rw (a, b) refl }
+ack_counted s i q r a b = record { there = proposed_open s i r b; done = rw (a, b) (counted_is i (answered q Ack) s) }
 
 pub nack_counted : (s : NodeState) (i q r : ℕ) → is_open s i ≡ true → has_proposed i r s ≡ true → IsAllAtOnce s (heard_body q (say.Nack i r) s) (record { instance = i; sender = q; answer = Nack })
 unfolding heard_body count_nack
-nack_counted s i q r a b = record { there = proposed_open s i r b; done = rw (a, b) refl }
+nack_counted s i q r a b = record { there = proposed_open s i r b; done = rw (a, b) (counted_is i (answered q Nack) s) }
 
 -- a command that is known doesn't come into the pool
 known_stays : (s : NodeState) (e : Estimated) → (has_request s.pool e.command.request || is_decided_request s e.command.request) ≡ true → pool_add e.command s ≡ s
 unfolding pool_add
 known_stays s e k = rw k refl
 
-counts_only : (s : NodeState) (i q : ℕ) (e : Estimated) → count_estimate i q e s ≡ change_tally i (answered q (Estimate e)) s
+counts_only : (s : NodeState) (i q : ℕ) (e : Estimated) → count_estimate i q e s ≡ record s { rows = tallied i (answered q (Estimate e)) s.rows }
 unfolding count_estimate
-counts_only s i q e = refl
+counts_only s i q e = counted_is i (answered q (Estimate e)) s
 
 heard_estimate : (s : NodeState) (i q : ℕ) (e : Estimated) → is_undecided (standing_at s i) ≡ true → is_open s i ≡ true → eqb (coordinator_of e.round s.nodes) s.node ≡ true → heard_body q (say.Estimate i e) s ≡ take_estimate i q e (catch_up i e.round e.command (pool_add e.command s))
 unfolding heard_body

@@ -1,6 +1,7 @@
 //! What a node does, as functions on a step of its state. `started` gives the state after an opening. From then on
 //! `input_step` does what an input asks, and then all that is due (`due.rt`). It gives `Changes`, and the node takes them on
-//! by `State::absorb` of `rr_step`.
+//! by `State::absorb` of `rr_step`. `answer_of` tells which message brings only an answer, which the node counts by
+//! `State::count`; `due_step` then does what is due.
 //!
 //! # Example
 //!

@@ -1,15 +1,16 @@
 -- An answer that is counted in the state leaves the core as lawful as it was.
 use Rattle.std.proofs.Common.{◌≡◌, ◌^◌, ◌<◌, ◌≤◌, ◌⊎◌, ℕ, Bool, subst, sym, ap, ◌∙◌, refl, Option, Some, None, Result, Ok, Err, OnOk, OnErr, IfErr}
-use Rattle.std.specs.Option.{option_map_or}
 use Rattle.rr_registry.specs.Kept.{Kept}
-use Rattle.rr_model.specs.NodeState.{NodeState, Row, Tally, row_of, put_row, next_number, decided_prefix}
+use Rattle.rr_model.specs.NodeState.{NodeState, Tally, next_number}
 use Rattle.rr_types.specs.declared.input.Input.{Input}
 use Rattle.rr_types.specs.declared.refusal.Refusal.{Refusal}
 use Rattle.rr_types.specs.declared.refusal.Refusal.TheVariants.{TooLarge, OutOfMemory}
 use Rattle.rr_model.specs.NodeDue.{settle}
-use Rattle.rr_model.specs.NodeStep.{change_tally, taken_in, node_step, input_refusal, refusal_of}
+use Rattle.rr_model.specs.NodeStep.{taken_in, node_step, input_refusal, refusal_of}
 use Rattle.rr_behaviour.specs.declared.answers.Counted.{Counted}
 use Rattle.rr_behaviour.specs.Answering.{counted, IsAllAtOnce}
+use Rattle.rr_list.specs.Answered.{tallied}
+use Rattle.rr_behaviour.proofs.AnswerLemmas.{counted_is}
 use Rattle.rr_behaviour.proofs.InputSteps.{step_is, allowed, refused_of}
 use Rattle.rr_core.specs.Kept.{IsKept}
 use Rattle.rr_core.specs.Lawful.{IsLawful}
@@ -22,18 +23,13 @@ use Rattle.rr_core.proofs.StepLaws.{tally_quiet}
 abbrev pub Holds : Kept → ℕ → Bool → Marked → NodeState → Type 0
 Holds registry count stale mark s = IsKept s registry × IsSearched count stale s × (mark ≡ mark_of s)
 
-pub counted_holds : (registry : Kept) (count : ℕ) (stale : Bool) (mark : Marked) (i : ℕ) (f : Tally → Tally) (s : NodeState) → Holds registry count stale mark s → Holds registry count stale mark (change_tally i f s)
-counted_holds registry count stale mark i f s h = at (row_of s.rows i) ((quiet_step s _ (tally_quiet i f s)).lawful h.0.lawful)
-  where
-    changed : Option Row → NodeState
-    changed o = option_map_or (λ (row : Row). record s { rows = put_row (record row { tally = f row.tally }) s.rows }) o s
-
-    at : (o : Option Row) → IsLawful (changed o) → Holds registry count stale mark (changed o)
-    at None l = h
-    at (Some row) l = (record { lawful = l; room = h.0.room; kept = h.0.kept }, record { within = h.1.within; none = h.1.none }, h.2)
+pub counted_holds : (registry : Kept) (count : ℕ) (stale : Bool) (mark : Marked) (i : ℕ) (f : Tally → Tally) (s : NodeState) → Holds registry count stale mark s → Holds registry count stale mark (record s { rows = tallied i f s.rows })
+counted_holds registry count stale mark i f s h =
+    let lawful : IsLawful (record s { rows = tallied i f s.rows }) = subst IsLawful (counted_is i f s) ((quiet_step s _ (tally_quiet i f s)).lawful h.0.lawful) in
+    (record { lawful = lawful; room = h.0.room; kept = h.0.kept }, record { within = h.1.within; none = h.1.none }, h.2)
 
 -- whether memory was there or wanting
-pub counted_any : {B E : Type 0} → (registry : Kept) (count : ℕ) (stale : Bool) (mark : Marked) (i : ℕ) (f : Tally → Tally) (s t : NodeState) (r : Result B E) → OnOk r (t ≡ change_tally i f s) → OnErr r (t ≡ s) → Holds registry count stale mark s → Holds registry count stale mark t
+pub counted_any : {B E : Type 0} → (registry : Kept) (count : ℕ) (stale : Bool) (mark : Marked) (i : ℕ) (f : Tally → Tally) (s t : NodeState) (r : Result B E) → OnOk r (t ≡ record s { rows = tallied i f s.rows }) → OnErr r (t ≡ s) → Holds registry count stale mark s → Holds registry count stale mark t
 counted_any registry count stale mark i f s t (Ok b) ok err h = rw ok (counted_holds registry count stale mark i f s h)
 counted_any registry count stale mark i f s t (Err e) ok err h = rw err h
 

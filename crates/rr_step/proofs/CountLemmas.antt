@@ -1,24 +1,13 @@
 -- An answer counted in the state itself.
-use Rattle.std.proofs.Common.{◌≡◌, ℕ, true, false, List, ap, sym, ◌∙◌, refl, subst, Option, Some, None, option_map, IsTrue}
-use Rattle.std.specs.Option.{option_map_or}
+use Rattle.std.proofs.Common.{◌≡◌, ℕ, true, List, ap, sym, ◌∙◌, subst, Some, option_map}
 use Rattle.rr_types.specs.declared.command.Command.{Command}
-use Rattle.rr_types.specs.declared.promise.Standing.{Standing}
-use Rattle.rr_model.specs.NodeState.{NodeState, Row, Tally, row_of, put_row, is_decided}
-use Rattle.rr_model.specs.NodeStep.{change_tally}
+use Rattle.rr_model.specs.NodeState.{Row, Tally, row_of}
 use Rattle.rr_list.specs.Answered.{is_open_row, tallied}
 use Rattle.rr_list.specs.Rowed.{AscendFrom}
 use Rattle.rr_list.proofs.AnswerLemmas.{open_row, tallied_at, with_tally}
 use Rattle.rr_step.specs.Steps.{IsSpent}
 use Rattle.rr_step.proofs.OverLemmas.{row_is_of}
 use Rattle.rr_step.proofs.SpentLemmas.{spent_stays}
-
--- the rows alone change
-pub counted_is : (i : ℕ) (f : Tally → Tally) (s : NodeState) → change_tally i f s ≡ record s { rows = tallied i f s.rows }
-counted_is i f s = at (row_of s.rows i)
-  where
-    at : (o : Option Row) → option_map_or (λ (row : Row). record s { rows = put_row (record row { tally = f row.tally }) s.rows }) o s ≡ record s { rows = option_map_or (λ (row : Row). put_row (record row { tally = f row.tally }) s.rows) o s.rows }
-    at None = refl
-    at (Some row) = refl
 
 -- what the pool has for the others stays
 pub still_spent : (rows after : List Row) (i : ℕ) (f : Tally → Tally) (pool : List Command) → AscendFrom 0 rows → is_open_row rows i ≡ true → after ≡ tallied i f rows → IsSpent rows pool → IsSpent after pool

@@ -1,9 +1,8 @@
 //! An answer to a coordinator's round, counted in the state itself.
 
 ghost use Rattle.std.specs.Prelude.{◌≡◌, true, IfOk, OnOk, OnErr};
-ghost use Rattle.rr_model.specs.NodeStep.{change_tally};
 ghost use Rattle.rr_parts.specs.Answers.{answered, unheard};
-ghost use Rattle.rr_list.specs.Answered.{is_open_row};
+ghost use Rattle.rr_list.specs.Answered.{is_open_row, tallied};
 
 use crate::state::State;
 use rr_parts::{Answer, Before};
@@ -12,7 +11,7 @@ use std::alloc::AllocError;
 
 impl State {
     /// Counts an answer to the round of an instance, and gives what takes it back. Only an estimate needs memory.
-    #[tactic(auto, using(crate::proofs::CountLemmas::counted_is, crate::proofs::CountLemmas::still_spent))]
+    #[tactic(auto, using(crate::proofs::CountLemmas::still_spent))]
     pub fn count(
         &mut self,
         instance: Instance,
@@ -20,8 +19,8 @@ impl State {
         answer: &Answer,
     ) -> Result<Before, AllocError>
         requires { is_open_row self.old.rows instance ≡ true }
-        ensures ok { OnOk result (self.new ≡ change_tally instance (answered sender answer.now) self.old) }
-        ensures back { IfOk result (λ before. change_tally instance (unheard before) self.new ≡ self.old) }
+        ensures ok { OnOk result (self.new ≡ record self.old { rows = tallied instance (answered sender answer.now) self.old.rows }) }
+        ensures back { IfOk result (λ before. record self.new { rows = tallied instance (unheard before) self.new.rows } ≡ self.old) }
         ensures kept { OnErr result (self.new ≡ self.old) }
     {
         // That the rows ascend is told by this call alone.
@@ -31,10 +30,10 @@ impl State {
     }
 
     /// Takes back an answer to the round of an instance. It needs no memory.
-    #[tactic(auto, using(crate::proofs::CountLemmas::counted_is, crate::proofs::CountLemmas::still_spent))]
+    #[tactic(auto, using(crate::proofs::CountLemmas::still_spent))]
     pub fn uncount(&mut self, instance: Instance, before: &Before)
         requires { is_open_row self.old.rows instance ≡ true }
-        ensures { self.new ≡ change_tally instance (unheard before.now) self.old }
+        ensures { self.new ≡ record self.old { rows = tallied instance (unheard before.now) self.old.rows } }
     {
         // That the rows ascend is told by this call alone.
         let _row = self.row(instance);

@@ -1,6 +1,7 @@
 //! A step of a node. `Step::new` borrows the `State`. Look-ups see the node as the step has left it by then, and changes
 //! (`stage`, `owe`, `pool_add`) are collected beside it. `into_changes` gives them, and `State::absorb` takes on all or none. A
-//! refused step is dropped. What it collected in, `absorb` leaves as room for the next one.
+//! refused step is dropped. What it collected in, `absorb` leaves as room for the next one. Before a step, `State::count` counts an
+//! answer in the state itself, and after a refusal `uncount` takes it back.
 //!
 //! # Example
 //!
