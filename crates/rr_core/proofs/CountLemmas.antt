@@ -1,5 +1,6 @@
 -- An answer that is counted in the state leaves the core as lawful as it was.
-use Rattle.std.proofs.Common.{◌≡◌, ◌^◌, ◌<◌, ◌≤◌, ◌⊎◌, ℕ, Bool, subst, sym, ap, ◌∙◌, refl, Option, Some, None, Result, Ok, Err, OnOk, OnErr, IfErr}
+use Rattle.std.proofs.Common.{◌≡◌, ◌^◌, ◌<◌, ◌≤◌, ◌⊎◌, ℕ, Bool, subst, sym, ap, ◌∙◌, refl, Option, Some, None, Result, Ok, Err, OnOk, OnErr, IfErr, IfSome}
+use Rattle.std.proofs.lemmas.Option.{same_Some}
 use Rattle.rr_registry.specs.Kept.{Kept}
 use Rattle.rr_model.specs.NodeState.{NodeState, Tally, next_number}
 use Rattle.rr_types.specs.declared.input.Input.{Input}
@@ -16,8 +17,11 @@ use Rattle.rr_core.specs.Kept.{IsKept}
 use Rattle.rr_core.specs.Lawful.{IsLawful}
 use Rattle.rr_core.specs.Marks.{Marked, mark_of}
 use Rattle.rr_core.specs.Searched.{IsSearched}
+use Rattle.rr_core.specs.Taken.{CanBeTaken}
+use Rattle.rr_step.specs.Steps.{Changed}
+use Rattle.rr_behaviour.specs.Changes.{IsSettled}
 use Rattle.rr_core.proofs.QuietLaws.{quiet_step}
-use Rattle.rr_core.proofs.StepLaws.{tally_quiet}
+use Rattle.rr_core.proofs.StepLaws.{tally_quiet, settle_lawful}
 
 -- what holds of a core between its calls
 abbrev pub Holds : Kept → ℕ → Bool → Marked → NodeState → Type 0
@@ -50,3 +54,18 @@ module _ (input : Input) (s : NodeState) (a : Counted) (all : IsAllAtOnce s (tak
   count_refused r none h =
       refused_of input s (record { base = s; state = taken_in input s }) r refl none
       (subst (λ (t : NodeState). IfErr r (λ e. (e ≡ OutOfMemory) ⊎ ((e ≡ TooLarge) × (2 ^ 64 ≤ next_number (settle t))))) (sym all.done) h)
+
+-- what is due can be taken on
+pub settled_taken : (s t : NodeState) (c : Changed) → s ≡ t → IsSettled s s c → CanBeTaken t c
+settled_taken s t c e h =
+    subst (λ (u : NodeState). CanBeTaken u c) e
+    (record {
+      lawful = λ l. subst IsLawful (sym h.done) (settle_lawful s l);
+      room = subst (λ (u : NodeState). next_number u < 2 ^ 64) (sym h.done) h.room;
+      fits = h.fits;
+    })
+
+-- what holds of an answer that is there
+pub if_there : {A : Type 0} {P : A → Type 0} → (o : Option A) (a : A) → IfSome o P → o ≡ Some a → P a
+if_there None a h e = absurd (cc)
+if_there {P = P} (Some b) a h e = subst P (same_Some b a e) h
