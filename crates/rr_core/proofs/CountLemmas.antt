@@ -66,6 +66,6 @@ settled_taken s t c e h =
     })
 
 -- what holds of an answer that is there
-pub if_there : {A : Type 0} {P : A → Type 0} → (o : Option A) (a : A) → IfSome o P → o ≡ Some a → P a
-if_there None a h e = absurd (cc)
-if_there {P = P} (Some b) a h e = subst P (same_Some b a e) h
+pub if_there : {A : Type 0} (P : A → Type 0) → (o : Option A) (a : A) → IfSome o P → o ≡ Some a → P a
+if_there P None a h e = absurd (cc)
+if_there P (Some b) a h e = subst P (same_Some b a e) h

@@ -20,7 +20,7 @@ pub returns-in-Some-answer-clause-ok : goal.returns-in-Some-answer-clause-ok
 returns-in-Some-answer-clause-ok c =
     let same = c.take_room.ensures.same in
     let a = c.in-Some-answer.answer in
-    let all = subst (λ (x : NodeState). IsAllAtOnce x (taken_in c.args.input.now x) a) (c.deref-2.ensures ∙ c.self-2.view_is ∙ same) (if_there c.answer_of.result.0 a c.answer_of.ensures c.in-Some-answer.is) in
+    let all = subst (λ (x : NodeState). IsAllAtOnce x (taken_in c.args.input.now x) a) (c.deref-2.ensures ∙ c.self-2.view_is ∙ same) (if_there (IsAllAtOnce c.deref-2.result.now (taken_in c.args.input.now c.deref-2.result.now)) c.answer_of-answer.result.0 a c.answer_of-answer.ensures c.in-Some-answer.is) in
     count_ok c.args.input.now c.args.self.now a all c.count.new.self c.count.result
     (subst (λ (x : NodeState). OnOk c.count.result (c.count.new.self ≡ settle (counted a x))) same c.count.ensures.ok)
 
@@ -28,8 +28,8 @@ pub returns-in-Some-answer-clause-allowed : goal.returns-in-Some-answer-clause-a
 returns-in-Some-answer-clause-allowed c =
     let same = c.take_room.ensures.same in
     let a = c.in-Some-answer.answer in
-    let all = subst (λ (x : NodeState). IsAllAtOnce x (taken_in c.args.input.now x) a) (c.deref-2.ensures ∙ c.self-2.view_is ∙ same) (if_there c.answer_of.result.0 a c.answer_of.ensures c.in-Some-answer.is) in
-    let none : input_refusal c.args.input.now c.args.self.now ≡ None = ap (input_refusal c.args.input.now) (sym (c.deref.ensures ∙ c.self.view_is)) ∙ sym c.in-None.ensures in
+    let all = subst (λ (x : NodeState). IsAllAtOnce x (taken_in c.args.input.now x) a) (c.deref-2.ensures ∙ c.self-2.view_is ∙ same) (if_there (IsAllAtOnce c.deref-2.result.now (taken_in c.args.input.now c.deref-2.result.now)) c.answer_of-answer.result.0 a c.answer_of-answer.ensures c.in-Some-answer.is) in
+    let none : input_refusal c.args.input.now c.args.self.now ≡ None = ap (input_refusal c.args.input.now) (sym (c.deref.ensures ∙ c.self.view_is)) ∙ sym c.in_default.ensures in
     count_allowed c.args.input.now c.args.self.now a all c.count.result none
     (subst (λ (x : NodeState). OnOk c.count.result (next_number (settle (counted a x)) < 2 ^ 64)) same c.count.ensures.room)
 
@@ -37,7 +37,7 @@ pub returns-in-Some-answer-clause-refused : goal.returns-in-Some-answer-clause-r
 returns-in-Some-answer-clause-refused c =
     let same = c.take_room.ensures.same in
     let a = c.in-Some-answer.answer in
-    let all = subst (λ (x : NodeState). IsAllAtOnce x (taken_in c.args.input.now x) a) (c.deref-2.ensures ∙ c.self-2.view_is ∙ same) (if_there c.answer_of.result.0 a c.answer_of.ensures c.in-Some-answer.is) in
-    let none : input_refusal c.args.input.now c.args.self.now ≡ None = ap (input_refusal c.args.input.now) (sym (c.deref.ensures ∙ c.self.view_is)) ∙ sym c.in-None.ensures in
+    let all = subst (λ (x : NodeState). IsAllAtOnce x (taken_in c.args.input.now x) a) (c.deref-2.ensures ∙ c.self-2.view_is ∙ same) (if_there (IsAllAtOnce c.deref-2.result.now (taken_in c.args.input.now c.deref-2.result.now)) c.answer_of-answer.result.0 a c.answer_of-answer.ensures c.in-Some-answer.is) in
+    let none : input_refusal c.args.input.now c.args.self.now ≡ None = ap (input_refusal c.args.input.now) (sym (c.deref.ensures ∙ c.self.view_is)) ∙ sym c.in_default.ensures in
     count_refused c.args.input.now c.args.self.now a all c.count.result none
     (subst (λ (x : NodeState). IfErr c.count.result (λ e. (e ≡ OutOfMemory) ⊎ ((e ≡ TooLarge) × (2 ^ 64 ≤ next_number (settle (counted a x)))))) same c.count.ensures.refused)
