@@ -7,7 +7,7 @@ ghost use Rattle.rr_locked.specs.Listed.{listed};
 
 use rr_core::Core;
 use rr_types::{Op, made_of};
-use rr_window::{NewList, Publisher, Seats, WindowName, open};
+use rr_window::{NewList, Publisher, Seats, WindowName, open_for};
 use std::alloc::{AllocError, Global};
 use std::marker::Model;
 use std::sync::Wait;
@@ -27,12 +27,16 @@ impl<W: WindowName> Model for Follower<W> {
 }
 
 impl<W: WindowName> Follower<W> {
-    /// Opens a window on an empty list, as `rr_window::open`: its follower, and its readers' places.
-    pub fn open(alloc: Global, list: NewList) -> Result<(Follower<W>, Seats<W>), AllocError>
+    /// Opens a window on an empty list for so many readers, as `rr_window::open_for`: its follower, and its readers' places.
+    pub fn open(
+        alloc: Global,
+        list: NewList,
+        readers: usize,
+    ) -> Result<(Follower<W>, Seats<W>), AllocError>
         requires { list ≡ W.book }
         ensures ok { IfOk result (λ ends. ends.0 ≡ record { published = []; appended = [] }) }
     {
-        let (publisher, seats) = open::<W>(alloc, list)?.split();
+        let (publisher, seats) = open_for::<W>(alloc, list, readers)?.split();
         Ok((Follower { publisher }, seats))
     }
 

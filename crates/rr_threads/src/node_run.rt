@@ -100,7 +100,7 @@ fn open_ends<W: WindowName, C: Drop, R: Wait>(
 ) -> Result<Ends<W, C>, Refusal>
     requires { list ≡ W.book }
 {
-    let (follower, seats) = Follower::<W>::open(alloc, list)?;
+    let (follower, seats) = Follower::<W>::open(alloc, list, clients.len())?;
     match seat_all(alloc, &seats, clients) {
         Ok(seated) => Ok(Ends {
             follower,

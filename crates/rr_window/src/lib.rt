@@ -49,7 +49,7 @@ mod watch;
 
 pub use change::Change;
 pub use list::{NewList, WindowName};
-pub use publisher::{Publisher, SEATS, Window, open};
+pub use publisher::{Publisher, SEATS, Window, open, open_for};
 pub use receipt::{Receipt, Told};
 pub use seat::{Seat, Seats};
 pub use sight::Sight;

@@ -67,11 +67,25 @@ pub fn open<W: WindowName>(alloc: Global, list: NewList) -> Result<Window<W>, Al
     requires { list ≡ W.book }
     ensures ok { IfOk result (λ w. w ≡ record { published = []; appended = [] }) }
 {
+    open_for(alloc, list, SEATS)
+}
+
+/// As `open`, with places for so many readers at a time: one at least, and 64 at most. A call of `publish` goes through all of
+/// them, so fewer are quicker.
+pub fn open_for<W: WindowName>(
+    alloc: Global,
+    list: NewList,
+    readers: usize,
+) -> Result<Window<W>, AllocError>
+    requires { list ≡ W.book }
+    ensures ok { IfOk result (λ w. w ≡ record { published = []; appended = [] }) }
+{
+    let seats = readers.max(1).min(SEATS);
     let (list_length, empty) = list.named::<W>();
     let first = Served::new(alloc, empty.again());
     let second = Served::new(alloc, empty.again());
     let writer: Writer<Served, Addition, (), WindowRule<W>> = Writer::new(
-        alloc, first, second, SEATS,
+        alloc, first, second, seats,
     )?;
     let seats = Seats::new(writer.factory().another().ok(), empty.again());
     let publisher = Publisher {

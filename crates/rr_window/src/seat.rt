@@ -23,7 +23,7 @@ use std::alloc::{AllocError, Global};
 use std::collections::VecDeque;
 use std::marker::Model;
 
-/// The places of a window's readers, at most 64 at a time. Threads may share it.
+/// The places of a window's readers, at most 64 at a time, or as many as it was opened for. Threads may share it.
 #[derive(Drop)]
 pub struct Seats<W: WindowName> {
     // None where the count of those who share the window is full.
