@@ -120,12 +120,9 @@ fn a_text_that_is_cut_is_refused_or_printed(rt: HostRuntime) {
 
 /// Asserts that an event is that node 2 is asked for `7.1 claim a x`.
 fn assert_submitted(rt: &impl Abort, event: &Event) {
-    match event {
-        Event {
-            node,
-            what: Happening::At(NodeEvent::Told(Input::Submit(command))),
-        } => {
-            assert!(rt; node.index() == 2);
+    assert!(rt; event.node.index() == 2);
+    match &event.what {
+        Happening::At(NodeEvent::Told(Input::Submit(command))) => {
             assert!(rt; command.request == RequestNo { client: 7, seq: 1 });
             let claim = Op::Claim(name_of(rt, "a"), value_of(rt, "x"));
             assert!(rt; command.op.is_same(&claim));
@@ -136,11 +133,9 @@ fn assert_submitted(rt: &impl Abort, event: &Event) {
 
 /// Asserts that an event is that node 1 hears the message with number 5.
 fn assert_heard(rt: &impl Abort, event: &Event) {
-    match event {
-        Event {
-            node,
-            what: Happening::At(NodeEvent::Told(Input::Hear(message))),
-        } => assert!(rt; node.index() == 1 && *message == 5),
+    assert!(rt; event.node.index() == 1);
+    match &event.what {
+        Happening::At(NodeEvent::Told(Input::Hear(message))) => assert!(rt; *message == 5),
         _ => rt.panic("another event"),
     }
 }
