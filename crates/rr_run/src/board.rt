@@ -57,7 +57,7 @@ pub(crate) trait Board {
         ensures none { result ≡ None → gave (misses seen.now.has_ended) };
 
     /// The refusal by which the run has ended; `Down`, where it has ended without one.
-    fn ending<R: Wait>(&self, rt: &R) -> Refusal
+    fn ending(&self) -> Refusal
         ensures { gave (ends result) };
 
     /// Waits until something is told, or a while.
@@ -83,7 +83,7 @@ pub(crate) fn wait_until_begun<B: Board, R: Wait>(board: &B, rt: &R) -> Result<(
             return Ok(());
         }
         if board.look_at_end().has_ended() {
-            return Err(board.ending(rt));
+            return Err(board.ending());
         }
         board.wait(rt);
     }
@@ -110,7 +110,7 @@ pub(crate) fn ask<B: Board, R: Wait>(
             return Ok(told);
         }
         if seen.has_ended() {
-            return Err(board.ending(rt));
+            return Err(board.ending());
         }
         board.rest(rt);
     }
@@ -148,7 +148,7 @@ pub(crate) fn switch<B: Board, R: Wait>(
             return Ok(());
         }
         if board.look_at_end().has_ended() {
-            return Err(board.ending(rt));
+            return Err(board.ending());
         }
         board.wait(rt);
     }

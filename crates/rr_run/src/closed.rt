@@ -1,12 +1,14 @@
 //! The lines that tell why the folders of a run aren't opened.
 
-ghost use Rattle.rr_run.specs.Closings.{IsRefusalOf, IsClosedBy};
+ghost use Rattle.rr_image.specs.Image.{found};
+ghost use Rattle.rr_run.specs.Closings.{IsRefusalOf, IsClosedBy, IsRefusedFor};
 
 use rr_cli::{end_by_refusal, print_folder_fault};
 use rr_cluster::Fault;
 use rr_folders::Closed;
 use rr_image::read_image;
 use rr_types::{NodeId, Nodes, Refusal};
+use std::alloc::Global;
 use std::io::Write;
 use std::os::unix::fs::FileExt;
 use std::rt::Files;
@@ -69,7 +71,14 @@ fn opening_refusal<R: Files + AllocGlobal>(
     else {
         return Refusal::Device;
     };
-    match read_image(rt.alloc(), nodes, node, first.as_slice(), second.as_slice()) {
+    refusal_for(rt.alloc(), nodes, node, first.as_slice(), second.as_slice())
+}
+
+// What an opening of a node's disk of these areas is refused with; a device that fails where it isn't.
+fn refusal_for(alloc: Global, nodes: Nodes, node: NodeId, first: &[u8], second: &[u8]) -> Refusal
+    ensures { IsRefusedFor (found nodes node first.now second.now) result }
+{
+    match read_image(alloc, nodes, node, first, second) {
         Ok(_) => Refusal::Device,
         Err(refusal) => refusal,
     }

@@ -184,8 +184,8 @@ impl Board for Post {
         }
     }
 
-    fn ending<R: Wait>(&self, rt: &R) -> Refusal {
-        self.ending.refusal(rt)
+    fn ending(&self) -> Refusal {
+        self.ending.refusal()
     }
 
     fn rest<R: Wait>(&self, rt: &R) {
