@@ -14,7 +14,7 @@ use Rattle.rr_types.specs.Inputs.{told_as, message_on}
 use Rattle.rr_model.specs.Lawful.{Heard}
 use Rattle.rr_model.specs.Laws.{after_steps}
 use Rattle.rr_model.specs.NodeInWorld.{IsInWorld, LeavesTheGroup, sent_by_event, told_by_event}
-use Rattle.rr_model.specs.NodeLaws.{NodeEvent, Told, Grouped, PutBack, Marked, Left, Answered, after_event, heard_after, facts_of_event, facts_of_input}
+use Rattle.rr_model.specs.NodeLaws.{StateEvent, Told, Grouped, PutBack, Marked, Left, Answered, after_event, heard_after, facts_of_event, facts_of_input}
 use Rattle.rr_model.specs.NodeReached.{IsReached, Happened, IsProperEvent, NamesRounds}
 use Rattle.rr_model.specs.NodeState.{NodeState}
 use Rattle.rr_types.specs.declared.input.Input.{Input}
@@ -68,12 +68,12 @@ pub record IsThere (n p : ℕ) (s : NodeState) (w : World) : Type 0 where
   pub in_world : IsInWorld false n p facts heard s w
 
 -- the steps of what a node does, and the node behind them
-record Goes (n p : ℕ) (s : NodeState) (does : NodeEvent) (w : World) : Type 0 where
+record Goes (n p : ℕ) (s : NodeState) (does : StateEvent) (w : World) : Type 0 where
   run : IsRunFrom n w (steps_of_event p s does)
   there : IsThere n p (after_event s does) (after_steps w (steps_of_event p s does))
 
 -- it leaves the running group alone
-leaves : (n p : ℕ) (s : NodeState) (does : NodeEvent) (w : World) → IsThere n p s w → IsProperEvent n does → LeavesTheGroup does → MayCome w p s does → Goes n p s does w
+leaves : (n p : ℕ) (s : NodeState) (does : StateEvent) (w : World) → IsThere n p s w → IsProperEvent n does → LeavesTheGroup does → MayCome w p s does → Goes n p s does w
 leaves n p s does w t proper alone may =
     let r = reached_in_world n p t.facts t.heard s t.reached false does proper alone w t.in_world may in
     record {
@@ -134,7 +134,7 @@ hearing_submits true p m w = sym (append-nil w.submitted)
 hearing_submits false p m w = sym (append-nil w.submitted)
 
 -- a node does this by an event of the tape: it may, and sends, tells and submits what the tape has
-record Does (n : ℕ) (e : TapeEvent) (s : NodeState) (w : World) (does : NodeEvent) : Type 0 where
+record Does (n : ℕ) (e : TapeEvent) (s : NodeState) (w : World) (does : StateEvent) : Type 0 where
   goes : Goes n e.node s does w
   sent : sent_by_event s does ≡ sent_by e
   told : told_by_event e.node s does ≡ told_by e
@@ -169,16 +169,16 @@ module _ (n : ℕ) (s : NodeState) (w : World) (wire : List Message) (same : w.w
       subst (λ (x : Input Message). Does n (of_node p (tape.Told input)) s w (Told x)) (same_Some _ told h) (input_does (of_node p (tape.Told input)) _ t tt tt refl refl (sym (append-nil w.submitted)))
 
   -- what the tape has of the node
-  recorded_does : (p : ℕ) (what : Recorded) (does : NodeEvent) → IsThere n p s w → IsNextOf wire p s what does → Does n (of_node p what) s w does
-  recorded_does p (tape.Told input) does t h = subst (λ (d : NodeEvent). Does n (of_node p (tape.Told input)) s w d) (sym h.2) (told_does p input h.0 t h.1)
+  recorded_does : (p : ℕ) (what : Recorded) (does : StateEvent) → IsThere n p s w → IsNextOf wire p s what does → Does n (of_node p what) s w does
+  recorded_does p (tape.Told input) does t h = subst (λ (d : StateEvent). Does n (of_node p (tape.Told input)) s w d) (sym h.2) (told_does p input h.0 t h.1)
   recorded_does p tape.Take does t h =
-      subst (λ (d : NodeEvent). Does n (of_node p tape.Take) s w d) (sym h.0) (record { goes = leaves n p s Grouped w t tt tt tt; sent = refl; told = refl; submitted = sym (append-nil w.submitted) })
+      subst (λ (d : StateEvent). Does n (of_node p tape.Take) s w d) (sym h.0) (record { goes = leaves n p s Grouped w t tt tt tt; sent = refl; told = refl; submitted = sym (append-nil w.submitted) })
   recorded_does p tape.Mark does t h =
       let group = group_is s.running h.1 in
-      subst (λ (d : NodeEvent). Does n (of_node p tape.Mark) s w d) (sym h.0) (record { goes = marks n p s group.0 w t group.1; sent = refl; told = refl; submitted = sym (append-nil w.submitted) })
+      subst (λ (d : StateEvent). Does n (of_node p tape.Mark) s w d) (sym h.0) (record { goes = marks n p s group.0 w t group.1; sent = refl; told = refl; submitted = sym (append-nil w.submitted) })
   recorded_does p (tape.Sent k m) does t h =
       let send : Option Message → List Step = λ o. option_map_or (λ x. world.Send p x ∷ []) o [] in
-      subst (λ (d : NodeEvent). Does n (of_node p (tape.Sent k m)) s w d) (sym h.0) (record {
+      subst (λ (d : StateEvent). Does n (of_node p (tape.Sent k m)) s w d) (sym h.0) (record {
         goes = leaves n p s Left w t tt tt (reached_may_leave n p t.facts t.heard s t.reached w);
         sent = ap (λ (o : Option Message). option_map_or (λ x. x ∷ []) o []) h.2;
         told = ap (λ (o : Option Message). option_map_or (λ x. Sent x ∷ []) o []) h.2;
@@ -189,18 +189,18 @@ module _ (n : ℕ) (s : NodeState) (w : World) (wire : List Message) (same : w.w
       let step : Option RequestNo → List Step = λ o. option_map_or (λ x. option_map_or (λ r. world.Acknowledge p x r ∷ []) (told_reply s x) []) o [] in
       let told : tell (Some q) ≡ Acknowledged p q reply ∷ [] = ap (λ (o : Option Reply). option_map_or (λ r. Acknowledged p q r ∷ []) o []) h.2 in
       let steps : step (Some q) ≡ world.Acknowledge p q reply ∷ [] = ap (λ (o : Option Reply). option_map_or (λ r. world.Acknowledge p q r ∷ []) o []) h.2 in
-      subst (λ (d : NodeEvent). Does n (of_node p (tape.Acked q reply)) s w d) (sym h.0) (record {
+      subst (λ (d : StateEvent). Does n (of_node p (tape.Acked q reply)) s w d) (sym h.0) (record {
         goes = leaves n p s Answered w t tt tt tt;
         sent = refl;
         told = ap tell h.1 ∙ told;
         submitted = ap (λ (xs : List Step). (after_steps w xs).submitted) (ap step h.1 ∙ steps) ∙ sym (append-nil w.submitted);
       })
 
-  event_does : (e : TapeEvent) (does : NodeEvent) → IsThere n e.node s w → IsNextAt wire s e does → Does n e s w does
+  event_does : (e : TapeEvent) (does : StateEvent) → IsThere n e.node s w → IsNextAt wire s e does → Does n e s w does
   event_does e does t h = recorded_does e.node e.what does t h
 
   -- what it sends is proper
-  sent_proper : (e : TapeEvent) (does : NodeEvent) → IsThere n e.node s w → IsNextAt wire s e does → AllByRecursion (IsProper n) (sent_by e)
+  sent_proper : (e : TapeEvent) (does : StateEvent) → IsThere n e.node s w → IsNextAt wire s e does → AllByRecursion (IsProper n) (sent_by e)
   sent_proper e does t h = by e.what h
     where
       by : (what : Recorded) → IsNextOf wire e.node s what does → AllByRecursion (IsProper n) (sent_by (of_node e.node what))

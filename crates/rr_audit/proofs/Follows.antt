@@ -11,7 +11,7 @@ use Rattle.rr_types.specs.declared.refusal.Refusal.{Refusal}
 use Rattle.rr_types.specs.declared.promise.Entry.{Entry}
 use Rattle.rr_types.specs.Groups.{Grouped}
 use Rattle.rr_types.specs.Inputs.{told_as, message_on}
-use Rattle.rr_model.specs.NodeLaws.{NodeEvent, Told, after_event}
+use Rattle.rr_model.specs.NodeLaws.{StateEvent, Told, after_event}
 use Rattle.rr_model.specs.NodeState.{NodeState}
 use Rattle.rr_model.specs.NodeStays.{StaysMarked}
 use Rattle.rr_types.specs.declared.input.Input.TheVariants as node
@@ -36,8 +36,8 @@ pub group_of_input : (input : Input Message) (s : NodeState) → running_group (
 group_of_input input s = group_stays s (node_step input s) (input_stays input s)
 
 -- an answer to what is next at the node is one to the event
-pub follows : (wire : List Message) (e : TapeEvent) (old new next : NodeState) (r : Result (Option Given) Refusal) (Gives : Type 0) (does : NodeEvent)
-    → Answers Gives next new r → (Gives → IsNextAt wire old e does × (next ≡ after_event old does)) → ((other : NodeEvent) → IsNextAt wire old e other → Gives) → FollowsAt wire e old new r
+pub follows : (wire : List Message) (e : TapeEvent) (old new next : NodeState) (r : Result (Option Given) Refusal) (Gives : Type 0) (does : StateEvent)
+    → Answers Gives next new r → (Gives → IsNextAt wire old e does × (next ≡ after_event old does)) → ((other : StateEvent) → IsNextAt wire old e other → Gives) → FollowsAt wire e old new r
 follows wire e old new next (Ok None) Gives does h to from = let g = to h.0 in (does, g.0, h.1 ∙ g.1)
 follows wire e old new next (Ok (Some given)) Gives does h to from = λ other is. h (from other is)
 follows wire e old new next (Err refusal) Gives does h to from = h
@@ -47,7 +47,7 @@ pub follows_told : (wire : List Message) (p : ℕ) (input : Input ℕ) (told : I
     → told_as (message_on wire p) input ≡ Some told → Answers (refusal_of told old ≡ None) (node_step told old) new r → FollowsAt wire (of_node p (tape.Told input)) old new r
 follows_told wire p input told old new r is h = follows wire (of_node p (tape.Told input)) old new (node_step told old) r (refusal_of told old ≡ None) (Told told) h (λ ok. ((told, is, refl, ok), refl)) from
   where
-    from : (other : NodeEvent) → IsNextAt wire old (of_node p (tape.Told input)) other → refusal_of told old ≡ None
+    from : (other : StateEvent) → IsNextAt wire old (of_node p (tape.Told input)) other → refusal_of told old ≡ None
     from other next = subst (λ (x : Input Message). refusal_of x old ≡ None) (same_Some next.0 told (sym next.1 ∙ is)) next.3
 
 -- what a core answered to an input leaves the running group alone

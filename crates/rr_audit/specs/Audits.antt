@@ -8,7 +8,7 @@ use Rattle.rr_types.specs.declared.message.Body.TheVariants.{Decision}
 use Rattle.rr_types.specs.declared.message.Message.{Message}
 use Rattle.rr_types.specs.Inputs.{told_as, message_on}
 use Rattle.rr_types.specs.Registry.{reply_of}
-use Rattle.rr_model.specs.NodeLaws.{NodeEvent, Told, Grouped, Marked, Left, Answered, after_event}
+use Rattle.rr_model.specs.NodeLaws.{StateEvent, Told, Grouped, Marked, Left, Answered, after_event}
 use Rattle.rr_model.specs.NodeState.{NodeState, decided_prefix}
 use Rattle.rr_types.specs.declared.input.Input.{Input}
 use Rattle.rr_types.specs.declared.input.Input.TheVariants as node
@@ -35,7 +35,7 @@ new_replay n = record { nodes = map (λ p. started n p [] 0) (range_with_len 0 n
 
 -- what node p in this state does by what the tape has of it, where that is next over this wire: it doesn't refuse the
 -- input, and it has just this group to take or to mark, this message to send, or this reply to give
-abbrev pub IsNextOf : List Message → ℕ → NodeState → Recorded → NodeEvent → Type 0
+abbrev pub IsNextOf : List Message → ℕ → NodeState → Recorded → StateEvent → Type 0
 IsNextOf wire p s (tape.Told input) does =
     (told : Input Message) × (told_as (message_on wire p) input ≡ Some told) × (does ≡ Told told) × (refusal_of told s ≡ None)
 IsNextOf wire p s tape.Take does = (does ≡ Grouped) × (s.running ≡ None) × (s.staged ≢ [])
@@ -44,13 +44,13 @@ IsNextOf wire p s (tape.Sent k m) does = (does ≡ Left) × (k ≡ length wire) 
 IsNextOf wire p s (tape.Acked q reply) does = (does ≡ Answered) × (next_acknowledged s ≡ Some q) × (reply_of (decided_prefix s) q ≡ Some reply)
 
 -- the same of an event at its node
-abbrev pub IsNextAt : List Message → NodeState → TapeEvent → NodeEvent → Type 0
+abbrev pub IsNextAt : List Message → NodeState → TapeEvent → StateEvent → Type 0
 IsNextAt wire s e does = IsNextOf wire e.node s e.what does
 
 -- the world gives an event of the tape next: the state of its node, and what the node does
 pub record IsNext (r : Replay) (e : TapeEvent) : Type 0 where
   pub state : NodeState
-  pub does : NodeEvent
+  pub does : StateEvent
   pub here : slice_get r.nodes e.node ≡ Some state
   pub next : IsNextAt r.wire state e does
 
@@ -80,7 +80,7 @@ abbrev pub submitted_by : TapeEvent → List Command
 submitted_by e = submitted_of e.what
 
 -- the replay after an event by which its node, in this state before, does this
-abbrev pub replayed : TapeEvent → NodeState → NodeEvent → Replay → Replay
+abbrev pub replayed : TapeEvent → NodeState → StateEvent → Replay → Replay
 replayed e s does r = record { nodes = slice_set r.nodes e.node (after_event s does); wire = r.wire ++ sent_by e }
 
 -- the events lead from one replay to another by these steps of the world: the world gives each event next, and its

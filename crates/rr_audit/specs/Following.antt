@@ -3,7 +3,7 @@ use Rattle.std.specs.Prelude.{◌≡◌, ℕ, List, Option, None, Some, Result, 
 use Rattle.rr_types.specs.declared.message.Message.{Message}
 use Rattle.rr_types.specs.declared.refusal.Refusal.{Refusal}
 use Rattle.rr_types.specs.declared.refusal.Refusal.TheVariants.{OutOfMemory}
-use Rattle.rr_model.specs.NodeLaws.{NodeEvent, after_event}
+use Rattle.rr_model.specs.NodeLaws.{StateEvent, after_event}
 use Rattle.rr_model.specs.NodeState.{NodeState}
 use Rattle.rr_tape.specs.declared.tape_event.TapeEvent.{TapeEvent}
 use Rattle.rr_audit.specs.declared.given.Given.{Given}
@@ -23,8 +23,8 @@ Answers Gives next new (Err e) = e ≡ OutOfMemory
 
 -- a node followed an event of the tape over this wire: it did what is next, or the event isn't next, or memory was wanting
 abbrev pub FollowsAt : List Message → TapeEvent → NodeState → NodeState → Result (Option Given) Refusal → Type 0
-FollowsAt wire e old new (Ok None) = (does : NodeEvent) × IsNextAt wire old e does × (new ≡ after_event old does)
-FollowsAt wire e old new (Ok (Some given)) = (does : NodeEvent) → IsNextAt wire old e does → ⊥
+FollowsAt wire e old new (Ok None) = (does : StateEvent) × IsNextAt wire old e does × (new ≡ after_event old does)
+FollowsAt wire e old new (Ok (Some given)) = (does : StateEvent) → IsNextAt wire old e does → ⊥
 FollowsAt wire e old new (Err refusal) = refusal ≡ OutOfMemory
 
 -- the same of all nodes and their wire

@@ -1,5 +1,5 @@
 -- The loops over what is due follow its definition, instance by instance and turn by turn.
-use Rattle.std.proofs.Common.{◌≡◌, ◌+◌, ◌-◌, ◌<◌, ℕ, zero, suc, arith, Bool, true, false, eqb, not, ◌&&◌, ◌||◌, List, [], ◌∷◌, length, get_or, drop, ap, sym, ◌∙◌, refl, if◌then◌else◌, Option, Some, None}
+use Rattle.std.proofs.Common.{◌≡◌, ◌+◌, ◌<◌, ℕ, zero, suc, arith, Bool, true, false, eqb, not, ◌&&◌, ◌||◌, List, [], ◌∷◌, length, get_or, drop, ap, sym, ◌∙◌, refl, if◌then◌else◌, Option, Some, None}
 use Rattle.std.specs.Prelude.{nat_le}
 use Rattle.std.specs.List.{list_any}
 use Rattle.std.specs.Option.{option_map_or}

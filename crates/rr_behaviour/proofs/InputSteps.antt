@@ -1,5 +1,5 @@
 -- What an input changes makes the node's step.
-use Rattle.std.proofs.Common.{◌≡◌, ◌^◌, ◌<◌, ◌≤◌, ℕ, true, false, ltb, ◌⊎◌, inl, inr, Result, Ok, Err, IfErr, ap, sym, ◌∙◌, refl, Some, None}
+use Rattle.std.proofs.Common.{◌≡◌, ◌^◌, ◌<◌, ◌≤◌, true, false, ltb, ◌⊎◌, inl, inr, Result, Ok, Err, IfErr, ap, sym, ◌∙◌, refl, Some, None}
 use Rattle.std.proofs.lemmas.Bool.{lt-ltb, le-ltb}
 use Rattle.rr_types.specs.declared.input.Input.{Input}
 use Rattle.rr_types.specs.declared.message.Message.{Message}

@@ -4,8 +4,9 @@ use Rattle.std.specs.List.{range_with_len}
 use Rattle.rr_types.specs.declared.command.Command.{Command}
 use Rattle.rr_types.specs.declared.fact.Fact.TheVariants.{Propose}
 use Rattle.rr_types.specs.declared.message.Body.TheVariants as say
-use Rattle.rr_types.specs.declared.promise.Standing.TheVariants.{Open}
-use Rattle.rr_types.specs.Standings.{is_undecided, round_of, stamp_of}
+use Rattle.rr_types.specs.declared.promise.Standing.{Standing}
+use Rattle.rr_types.specs.declared.promise.Standing.TheVariants.{Decided, Open}
+use Rattle.rr_types.specs.Standings.{estimate_of, is_undecided, round_of, stamp_of}
 use Rattle.rr_types.specs.Rounds.{OpenAt, coordinator_of}
 use Rattle.rr_model.specs.NodeState.{NodeState, Row, everyone, next_number, standing_at, open_instances}
 use Rattle.rr_model.specs.NodeParts.{owe, stage, leave_round, enter, enter_with, propose, restate, backing_at, free_command}
@@ -47,6 +48,16 @@ restate_silent i o s h n = rw (h, n) refl
 restate_is : (i : ℕ) (o : OpenAt) (v : Command) (s : NodeState) → standing_at s i ≡ Some (Open o) → o.proposal ≡ Some v → restate i s ≡ owe (say.Proposal i o.round v) (Some (backing_at (λ b. b.proposed) s i)) (everyone s) (owe_coordinator i o s)
 unfolding restate owe_coordinator
 restate_is i o v s h n = rw (h, n) refl
+
+restated_by : (i : ℕ) (s : NodeState) (x : Option Standing) → standing_at s i ≡ x → estimate_of x ≡ None → restate i s ≡ s
+unfolding restate
+restated_by i s None e h = rw e refl
+restated_by i s (Some (Decided v)) e h = rw e refl
+restated_by i s (Some (Open o)) e h = cc
+
+-- an instance without a round isn't restated
+pub not_restated : (i : ℕ) (s : Stepped) → HasNoRound (standing_at s.state i) → s ≡ stepped (restate i) s
+not_restated i s h = ap (λ (t : NodeState). record { base = s.base; state = t }) (sym (restated_by i s.state (standing_at s.state i) refl h.estimate))
 
 -- and one with a proposal
 pub restate_proposing : (i : ℕ) (o : OpenAt) (v : Command) (s t u : Stepped) (r k : ℕ) → standing_at s.state i ≡ Some (Open o) → Some v ≡ o.proposal → r ≡ o.round → k ≡ backing_at (λ b. b.proposed) s.state i → t ≡ stepped (owe_coordinator i o) s → u ≡ stepped (λ w. owe (say.Proposal i r v) (Some k) (everyone w) w) t → u ≡ stepped (restate i) s

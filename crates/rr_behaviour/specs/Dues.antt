@@ -6,6 +6,8 @@ use Rattle.rr_model.specs.NodeParts.{free_command}
 use Rattle.rr_model.specs.NodeDue as model
 use Rattle.rr_behaviour.specs.declared.due.Due.{Due}
 use Rattle.rr_behaviour.specs.declared.due.Due.TheVariants.{Begin, Offer, Conclude, MoveOn}
+use Rattle.rr_behaviour.specs.declared.due.Found.{Found}
+use Rattle.rr_behaviour.specs.declared.due.Found.TheVariants as found
 
 -- what is due, in the words of the definitions
 abbrev pub meaning_of : Due → model.Due
@@ -13,6 +15,13 @@ meaning_of (Begin i v) = model.Begin i
 meaning_of (Offer i r v) = model.Offer i r v
 meaning_of (Conclude i v) = model.Conclude i v
 meaning_of (MoveOn i) = model.MoveOn i
+
+-- what was found to be due, whose command is lent
+abbrev pub due_in : Found → Due
+due_in (found.Begin i v) = Begin i v.now
+due_in (found.Offer i r v) = Offer i r v.now
+due_in (found.Conclude i v) = Conclude i v.now
+due_in (found.MoveOn i) = MoveOn i
 
 -- only an instance below the last round moves on
 abbrev pub MovesBelowLast : ℕ → Due → Type 0

@@ -6,7 +6,7 @@ ghost use Rattle.rr_types.specs.Standings.{round_of};
 ghost use Rattle.rr_model.specs.NodeState.{open_instances};
 ghost use Rattle.rr_model.specs.NodeDue.{due_of_coordinator, due_of_participant, due_of_row, first_due, due, carry_out, settle};
 ghost use Rattle.rr_step.specs.Steps.{stepped, IsSpent};
-ghost use Rattle.rr_behaviour.specs.Dues.{meaning_of, MovesBelowLast, CanBeCarriedOut};
+ghost use Rattle.rr_behaviour.specs.Dues.{meaning_of, due_in, MovesBelowLast, CanBeCarriedOut};
 
 use crate::decisions::conclude;
 use crate::entering::{begin, enter};
@@ -32,15 +32,39 @@ pub enum Due {
     MoveOn(Instance),
 }
 
+/// The same with the command lent. Mostly nothing is due, and a command is large.
+#[derive(Clone, Copy, Debug)]
+enum Found<'a> {
+    Begin(Instance, &'a Command),
+    Offer(Instance, Round, &'a Command),
+    Conclude(Instance, &'a Command),
+    MoveOn(Instance),
+}
+
+impl<'a> Found<'a> {
+    /// What was found, with a copy of the command.
+    fn due(&self) -> Due
+        ensures { result ≡ due_in self.now }
+    {
+        made_of!(Op);
+        match self {
+            Found::Begin(instance, command) => Due::Begin(*instance, **command),
+            Found::Offer(instance, round, command) => Due::Offer(*instance, *round, **command),
+            Found::Conclude(instance, command) => Due::Conclude(*instance, **command),
+            Found::MoveOn(instance) => Due::MoveOn(*instance),
+        }
+    }
+}
+
 #[tactic(auto, using(rr_parts::proofs::TallyLemmas::joined_empty))]
-fn due_of_coordinator(
+fn due_of_coordinator<'a>(
     step: &Step<'_>,
     instance: Instance,
-    tally: &Tally,
-    at: &OpenStanding,
-) -> Option<Due>
-    ensures value { option_map meaning_of result ≡ due_of_coordinator step.now.state instance tally.now at.now.round at.now.proposal }
-    ensures moves { IfSome result (MovesBelowLast at.now.round) }
+    tally: &'a Tally,
+    at: &'a OpenStanding,
+) -> Option<Found<'a>>
+    ensures value { option_map (λ f. meaning_of (due_in f)) result ≡ due_of_coordinator step.now.state instance tally.now at.now.round at.now.proposal }
+    ensures moves { IfSome result (λ f. MovesBelowLast at.now.round (due_in f)) }
 {
     made_of!(Op);
     let round = at.round();
@@ -48,14 +72,14 @@ fn due_of_coordinator(
         // Of a majority's estimates, that of the greatest stamp. If an earlier round could have decided, it is that
         // round's command (Chandra and Toueg 1996, phase 2).
         None => match tally.pick(step.nodes()) {
-            Some(command) => Some(Due::Offer(instance, round, command)),
+            Some(command) => Some(Found::Offer(instance, round, command)),
             None => None,
         },
         Some(command) => {
             // A majority has adopted the proposal on their disks, so each later coordinator that proposes has heard
             // one of these nodes. The rule is phase 4 of Chandra and Toueg (1996).
             if tally.is_acknowledged(step.nodes()) {
-                return Some(Due::Conclude(instance, *command));
+                return Some(Found::Conclude(instance, command));
             }
             // Where nobody refused, the answers are the acknowledgements.
             if tally.nacks.bits() == 0 {
@@ -63,7 +87,7 @@ fn due_of_coordinator(
             }
             // A majority has answered, and somebody refused. Waiting for more answers could last for ever.
             if tally.is_answered(step.nodes()) && round.number() < rr_types::MAX_ROUND {
-                Some(Due::MoveOn(instance))
+                Some(Found::MoveOn(instance))
             } else {
                 None
             }
@@ -71,13 +95,13 @@ fn due_of_coordinator(
     }
 }
 
-fn due_of_participant(step: &Step<'_>, instance: Instance, round: Round) -> Option<Due>
-    ensures value { option_map meaning_of result ≡ due_of_participant step.now.state instance round }
-    ensures moves { IfSome result (MovesBelowLast round) }
+fn due_of_participant<'a>(step: &Step<'_>, instance: Instance, round: Round) -> Option<Found<'a>>
+    ensures value { option_map (λ f. meaning_of (due_in f)) result ≡ due_of_participant step.now.state instance round }
+    ensures moves { IfSome result (λ f. MovesBelowLast round (due_in f)) }
 {
     let is_suspected = step.suspects().contains(coordinator(round, step.nodes()));
     if is_suspected && round.number() < rr_types::MAX_ROUND {
-        Some(Due::MoveOn(instance))
+        Some(Found::MoveOn(instance))
     } else {
         None
     }
@@ -91,9 +115,14 @@ fn has_answers(tally: &Tally) -> bool
 }
 
 #[tactic(auto, using(crate::proofs::DueLemmas::not_due))]
-fn due_of_open(step: &Step<'_>, instance: Instance, tally: &Tally, at: &OpenStanding) -> Option<Due>
-    ensures value { option_map meaning_of result ≡ due_of_row step.now.state instance tally.now (stands.Open at.now) }
-    ensures moves { IfSome result (MovesBelowLast at.now.round) }
+fn due_of_open<'a>(
+    step: &Step<'_>,
+    instance: Instance,
+    tally: &'a Tally,
+    at: &'a OpenStanding,
+) -> Option<Found<'a>>
+    ensures value { option_map (λ f. meaning_of (due_in f)) result ≡ due_of_row step.now.state instance tally.now (stands.Open at.now) }
+    ensures moves { IfSome result (λ f. MovesBelowLast at.now.round (due_in f)) }
 {
     // Most rows wait: nobody has answered, and nobody is suspected.
     if step.suspects().bits() == 0 && !has_answers(tally) {
@@ -108,9 +137,9 @@ fn due_of_open(step: &Step<'_>, instance: Instance, tally: &Tally, at: &OpenStan
 }
 
 #[tactic(auto, using(crate::proofs::DueLemmas::decided_waits))]
-fn due_of_row(step: &Step<'_>, instance: Instance, row: &Row) -> Option<Due>
-    ensures value { option_map meaning_of result ≡ due_of_row step.now.state instance row.now.tally row.now.standing }
-    ensures moves { IfSome result (MovesBelowLast (round_of (Some row.now.standing))) }
+fn due_of_row<'a>(step: &Step<'_>, instance: Instance, row: &'a Row) -> Option<Found<'a>>
+    ensures value { option_map (λ f. meaning_of (due_in f)) result ≡ due_of_row step.now.state instance row.now.tally row.now.standing }
+    ensures moves { IfSome result (λ f. MovesBelowLast (round_of (Some row.now.standing)) (due_in f)) }
 {
     match row.open() {
         None => None,
@@ -121,24 +150,24 @@ fn due_of_row(step: &Step<'_>, instance: Instance, row: &Row) -> Option<Due>
 /// The first of the open instances, which these are, for which something is due. The pool is searched at most once: a
 /// command is free for each instance that no fact names, or for none. It also tells whether the pool is known to have none.
 #[tactic(auto, using(crate::proofs::DueLemmas::first_due_more, crate::proofs::DueLemmas::first_due_here, crate::proofs::DueLemmas::spent_by, crate::proofs::DueLemmas::spent_for))]
-fn first_due(step: &Step<'_>, instances: &[Instance]) -> (Option<Due>, bool)
+fn first_due<'a>(step: &'a Step<'_>, instances: &[Instance]) -> (Option<Found<'a>>, bool)
     requires { instances.now ≡ open_instances step.now.state }
-    ensures value { option_map meaning_of result.0 ≡ first_due step.now.state instances.now }
-    ensures ready { IfSome result.0 (CanBeCarriedOut step.now.state) }
+    ensures value { option_map (λ f. meaning_of (due_in f)) result.0 ≡ first_due step.now.state instances.now }
+    ensures ready { IfSome result.0 (λ f. CanBeCarriedOut step.now.state (due_in f)) }
     ensures spent { IsTrue result.1 → IsSpent step.now.state.rows step.now.state.pool }
 {
     let mut is_pool_spent = step.is_spent();
     for instance in instances {
         match step.row(*instance) {
             Some(row) => {
-                if let Some(due) = due_of_row(step, *instance, row) {
-                    return (Some(due), is_pool_spent);
+                if let Some(found) = due_of_row(step, *instance, row) {
+                    return (Some(found), is_pool_spent);
                 }
             }
             None => {
                 if !is_pool_spent {
                     if let Some(command) = step.first_free(instances, *instance) {
-                        return (Some(Due::Begin(*instance, command)), false);
+                        return (Some(Found::Begin(*instance, command)), false);
                     }
                     is_pool_spent = true;
                 }
@@ -151,9 +180,9 @@ fn first_due(step: &Step<'_>, instances: &[Instance]) -> (Option<Due>, bool)
 /// What is due: the lowest open instance to which anything applies. What is found can be carried out.
 /// It also tells whether the pool is known to have no command for an instance that no fact names.
 #[tactic(auto, unfolding(rr_model::specs::NodeDue::due))]
-fn find_due(step: &Step<'_>) -> (Option<Due>, bool)
-    ensures value { option_map meaning_of result.0 ≡ due step.now.state }
-    ensures ready { IfSome result.0 (CanBeCarriedOut step.now.state) }
+fn find_due<'a>(step: &'a Step<'_>) -> (Option<Found<'a>>, bool)
+    ensures value { option_map (λ f. meaning_of (due_in f)) result.0 ≡ due step.now.state }
+    ensures ready { IfSome result.0 (λ f. CanBeCarriedOut step.now.state (due_in f)) }
     ensures spent { IsTrue result.1 → IsSpent step.now.state.rows step.now.state.pool }
 {
     let open = step.open_instances();
@@ -188,12 +217,15 @@ pub fn settle(step: &mut Step<'_>) -> Result<(), AllocError>
         return Ok(());
     }
     for turn in 0..TURNS {
-        let (due, is_spent) = find_due(step);
-        match due {
-            Some(due) => match carry_out(step, due) {
-                Ok(()) => (),
-                Err(refusal) => return Err(refusal),
-            },
+        let (found, is_spent) = find_due(step);
+        match found {
+            Some(found) => {
+                let due = found.due();
+                match carry_out(step, due) {
+                    Ok(()) => (),
+                    Err(refusal) => return Err(refusal),
+                }
+            }
             None => {
                 step.note_settled(is_spent);
                 return Ok(());

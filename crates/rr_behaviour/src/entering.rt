@@ -16,7 +16,10 @@ fn free_command(step: &Step<'_>, instance: Instance) -> Option<Command>
     ensures { result ≡ free_command step.now.state instance }
 {
     let open = step.open_instances();
-    step.first_free(open.as_slice(), instance)
+    match step.first_free(open.as_slice(), instance) {
+        Some(command) => Some(*command),
+        None => None,
+    }
 }
 
 /// The estimate with which an instance enters a round above its own, if there is one.

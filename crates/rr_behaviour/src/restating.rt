@@ -9,27 +9,18 @@ ghost use Rattle.rr_types.specs.declared.promise.Standing.TheVariants as stands;
 
 use rr_parts::Backing;
 use rr_step::Step;
-use rr_types::{Body, Estimate, Instance, OpenStanding, Standing, coordinator};
+use rr_types::{Body, Command, Estimate, Instance, Op, OpenStanding, coordinator, made_of};
 use std::alloc::AllocError;
 
 /// The numbers that back the messages of an instance; 0 where no fact names it.
 fn backing_or_none(step: &Step<'_>, instance: Instance) -> Backing
     ensures entered { result.entered ≡ backing_at (λ b. b.entered) step.now.state instance }
+    ensures proposed { result.proposed ≡ backing_at (λ b. b.proposed) step.now.state instance }
     ensures adopted { result.adopted ≡ backing_at (λ b. b.adopted) step.now.state instance }
 {
     match step.backing(instance) {
         Some(backing) => backing,
         None => Backing::none(),
-    }
-}
-
-/// The number of the fact that backs the proposal of an instance; 0 where no fact names it.
-fn proposal_number(step: &Step<'_>, instance: Instance) -> u128
-    ensures { result ≡ backing_at (λ b. b.proposed) step.now.state instance }
-{
-    match step.backing(instance) {
-        Some(backing) => backing.proposed,
-        None => 0,
     }
 }
 
@@ -39,10 +30,12 @@ fn owe_coordinator(
     step: &mut Step<'_>,
     instance: Instance,
     at: &OpenStanding,
+    backing: &Backing,
 ) -> Result<(), AllocError>
+    requires entered { backing.now.entered ≡ backing_at (λ b. b.entered) step.old.state instance }
+    requires adopted { backing.now.adopted ≡ backing_at (λ b. b.adopted) step.old.state instance }
     ensures ok { OnOk result (step.new ≡ stepped (owe_coordinator instance at.now) step.old) }
 {
-    let backing = backing_or_none(step, instance);
     let round = at.round();
     let to = coordinator(round, step.nodes());
     if at.stamp() < round.number() {
@@ -59,33 +52,38 @@ fn owe_coordinator(
 
 /// Restates where an open instance stands.
 #[tactic(auto, using(crate::proofs::RoundLemmas::restate_silent))]
-fn restate_open(step: &mut Step<'_>, instance: Instance, at: OpenStanding) -> Result<(), AllocError>
-    requires { standing_at step.old.state instance ≡ Some (stands.Open at) }
+fn restate_open(
+    step: &mut Step<'_>,
+    instance: Instance,
+    at: &OpenStanding,
+) -> Result<(), AllocError>
+    requires { standing_at step.old.state instance ≡ Some (stands.Open at.now) }
     ensures ok { OnOk result (step.new ≡ stepped (restate instance) step.old) }
 {
-    let number = proposal_number(step, instance);
-    owe_coordinator(step, instance, &at)?;
-    match at.proposal() {
+    let backing = backing_or_none(step, instance);
+    owe_coordinator(step, instance, at, &backing)?;
+    match at.proposal_ref() {
         None => Ok(()),
         Some(command) => {
-            let body = Body::Proposal(instance, at.round(), command);
-            step.owe_everyone(body, Some(number))?;
+            let body = Body::Proposal(instance, at.round(), *command);
+            step.owe_everyone(body, Some(backing.proposed))?;
             Ok(())
         }
     }
 }
 
-/// Restates where an open instance stands.
-#[tactic(auto, unfolding(rr_model::specs::NodeParts::restate))]
+/// Restates where an instance stands, if it has a round.
+#[tactic(auto, using(crate::proofs::RoundLemmas::not_restated))]
 fn restate(step: &mut Step<'_>, instance: Instance) -> Result<(), AllocError>
     ensures ok { OnOk result (step.new ≡ stepped (restate instance) step.old) }
 {
-    match step.standing(instance) {
+    match step.open(instance) {
         None => Ok(()),
-        Some(standing) => match standing {
-            Standing::Decided(_) => Ok(()),
-            Standing::Open(at) => restate_open(step, instance, at),
-        },
+        Some(at) => {
+            made_of!(Command, Op);
+            let at = *at;
+            restate_open(step, instance, &at)
+        }
     }
 }
 

@@ -83,18 +83,14 @@ fn take_answered(waiting: &mut Waiting, registry: &Registry) -> Option<(RequestN
 }
 
 /// The message of one that may leave: a free one at once, another one by its draft.
-fn cleared(owed: &Owed, mark: &Mark) -> Cleared
+fn cleared(owed: &Owed, mark: &Mark) -> Option<Cleared>
     requires own { IsOwn mark.now.node owed.now }
     requires leaving { may_leave mark.now.end owed.now ≡ true }
-    ensures { result ≡ owed.now.message }
+    ensures { result ≡ Some owed.now.message }
 {
-    let cleared = match owed.backing {
+    match owed.backing {
         Some(number) => Draft::new(&owed.message, number).clear(mark),
         None => Cleared::free(&owed.message),
-    };
-    match cleared {
-        Some(cleared) => cleared,
-        None => unreachable!(),
     }
 }
 
@@ -107,10 +103,12 @@ pub fn take_leaving(state: &mut State, mark: &Mark) -> Option<Cleared>
         (λ m. (next_leaving state.old ≡ Some m) × (state.new ≡ message_left state.old)) }
     ensures backed { IfSome result (IsFreeOrBacked (mark_of state.old) state.old.owed) }
 {
-    match state.owed.take_leaving(mark.end()) {
-        Some(owed) => Some(cleared(&owed, mark)),
-        None => None,
-    }
+    let Some(place) = state.owed.leaving_place(mark.end()) else {
+        return None;
+    };
+    let leaving = cleared(state.owed.at(place), mark);
+    state.owed.remove(place);
+    leaving
 }
 
 /// Takes the oldest waiting request that has a reply. Where all of the decided prefix was searched, there is none.

@@ -2,11 +2,12 @@
 
 ghost use Rattle.std.specs.Prelude.{◌≡◌, ◌≤◌, ◌+◌, ◌<◌, ◌++◌, IsTrue, OnOk, IfOk};
 ghost use Rattle.rr_text.specs.Scheduled.{IsEvent};
-ghost use Rattle.rr_lively.specs.Lively.{IsSoFar, MayStay};
+ghost use Rattle.rr_lively.specs.Lively.{IsSoFar};
 ghost use Rattle.rr_finish.specs.Finishes.{IsAdded, Adds};
 
 use crate::plan::Plan;
-use rr_sim::{Cluster, Stance};
+use rr_lively::may_stay;
+use rr_sim::Cluster;
 use rr_text::text_schedule::push_event_line;
 use rr_text::{Event, Happening};
 use rr_types::{Input, NodeEvent, Nodes};
@@ -40,20 +41,6 @@ fn is_added(nodes: Nodes, event: &Event) -> bool
         Happening::At(NodeEvent::Told(Input::Submit(_)) | NodeEvent::Snap) => false,
         Happening::At(_) => true,
         Happening::Fail(_) | Happening::Crash { .. } => false,
-    }
-}
-
-/// Whether an event that the report tells nothing of has left everything as it was.
-fn may_stay(cluster: &Cluster, event: &Event) -> bool
-    ensures { IsTrue result → MayStay cluster.now event.now }
-{
-    match event.what {
-        Happening::At(NodeEvent::Send | NodeEvent::Acknowledge) => true,
-        Happening::At(NodeEvent::Take) => match cluster.node(event.node) {
-            Some(seat) => seat.stance() == Stance::Resting,
-            None => false,
-        },
-        _ => false,
     }
 }
 

@@ -11,7 +11,7 @@ use Rattle.rr_image.specs.declared.image.Beginning.{Beginning}
 use Rattle.rr_image.specs.declared.image.Beginning.TheVariants as told
 use Rattle.rr_image.specs.declared.image.Choice.{Choice}
 use Rattle.rr_image.specs.declared.image.Choice.TheVariants as chosen
-use Rattle.rr_image.specs.Image.{Front, Blank, Faulty, Begins, Found, Broken, of_node, frame_behind, front_behind, front_of, found_by, found}
+use Rattle.rr_image.specs.Image.{Front, Blank, Faulty, Begins, Found, Broken, is_formatted, of_node, frame_behind, front_behind, front_of, found_by, found}
 use Rattle.rr_image.specs.Choices.{beginning_of, beginning_with, choice_by, found_alone, found_chosen}
 
 both_begin : (n p : ℕ) (one two : Front) (same less : Bool)
@@ -59,3 +59,29 @@ beginning_read n p (g ∷ tail) payload rest h two gate frame is =
     let front : front_of n p (g ∷ tail) ≡ front_read n p (length payload) rest (snapshot_in payload) =
     ap (λ (t : Bool). cond t (front_behind n p (frame_behind tail)) Blank) formatted ∙ ap (front_behind n p) frame in
     ap (beginning_with n p) is ∙ sym (read_so n p (length payload) rest (snapshot_in payload)) ∙ ap beginning_of (sym front)
+
+-- an area that isn't formatted has no first frame
+blank : (n p : ℕ) (bytes : List ℕ) → is_formatted bytes ≡ false → front_of n p bytes ≡ Blank
+blank n p bytes off = ap (λ (t : Bool). cond t (front_behind n p (frame_behind (drop 1 bytes))) Blank) off
+
+first_by : (n p : ℕ) (one : Front) → found_by n p one Blank ≡ found_alone n p First one
+first_by n p Faulty = refl
+first_by n p Blank = refl
+first_by n p (Begins v c rest) = refl
+
+second_by : (n p : ℕ) (two : Front) → found_by n p Blank two ≡ found_alone n p Second two
+second_by n p Faulty = refl
+second_by n p Blank = refl
+second_by n p (Begins v c rest) = refl
+
+-- where the second area isn't formatted, the first one alone counts
+pub first_alone : (n p : ℕ) (first second : List ℕ) → is_formatted second ≡ false
+    → found n p first second ≡ found_chosen n p (front_of n p first) (front_of n p second) (chosen.Active First)
+unfolding found
+first_alone n p first second off = ap (found_by n p (front_of n p first)) (blank n p second off) ∙ first_by n p (front_of n p first)
+
+-- where the first area isn't formatted, the second one alone counts
+pub second_alone : (n p : ℕ) (first second : List ℕ) → is_formatted first ≡ false
+    → found n p first second ≡ found_chosen n p (front_of n p first) (front_of n p second) (chosen.Active Second)
+unfolding found
+second_alone n p first second off = ap (λ (one : Front). found_by n p one (front_of n p second)) (blank n p first off) ∙ second_by n p (front_of n p second)

@@ -1,7 +1,7 @@
 //! What the two areas of a disk mean.
 
 ghost use Rattle.std.specs.Prelude.{◌≡◌, ◌≤◌, length, drop, IfOk, IfErr};
-ghost use Rattle.rr_image.specs.Image.{front_of, content_behind, active, found};
+ghost use Rattle.rr_image.specs.Image.{is_formatted, front_of, content_behind, active, found};
 ghost use Rattle.rr_image.specs.Ends.{IsFront, Finds, area_number};
 ghost use Rattle.rr_image.specs.Choices.{beginning_of, beginning_with, choice_by, found_alone, found_chosen};
 
@@ -40,7 +40,7 @@ pub enum Choice {
     Unformatted,
     /// This area is broken at its start.
     Broken(Area),
-    /// This area is active.
+    /// This area is active, unless it is broken at its start where the other one isn't formatted.
     Active(Area),
 }
 
@@ -173,10 +173,23 @@ fn choose(first: Beginning, second: Beginning) -> Choice
     }
 }
 
-/// What the first frames of both areas make of them.
+/// Whether an area of these bytes is formatted.
+fn is_formatted(bytes: &[u8]) -> bool
+    ensures { result ≡ is_formatted bytes.now }
+{
+    bytes.len() > 1 && bytes[0] == OPEN_GATE
+}
+
+/// What the first frames of both areas make of them. Where one area alone is formatted, its frame is judged as it is read.
 fn chosen(nodes: Nodes, node: NodeId, first: &[u8], second: &[u8]) -> Choice
     ensures { found nodes node first.now second.now ≡ found_chosen nodes node (front_of nodes node first.now) (front_of nodes node second.now) result }
 {
+    if !is_formatted(second) {
+        return Choice::Active(Area::First);
+    }
+    if !is_formatted(first) {
+        return Choice::Active(Area::Second);
+    }
     let first = beginning_of(nodes, node, first);
     let second = beginning_of(nodes, node, second);
     choose(first, second)

@@ -97,6 +97,14 @@ impl<T: Drop> Outlet<T> {
         self.inbox.queue.pop_as::<Take, R>(rt, &mut self.pass)
     }
 
+    /// As `take`, by one attempt, which may find none where another thread is in the way as well.
+    pub fn try_take(&mut self) -> Option<T>
+        ensures queue { self.new.queue ≡ self.old.queue }
+        ensures taken { MatchOption result (self.new ≡ self.old) (λ message. Takes self.old.view message self.new.view) }
+    {
+        self.inbox.queue.try_pop_as::<Take>(&mut self.pass)
+    }
+
     /// A law for the holder of both ends of one inbox: what was taken is a beginning of all that was put, and of that
     /// the port's messages are just those that it put, in order. It changes nothing.
     pub fn meet(&mut self, port: Port<T>) -> Port<T>
@@ -123,5 +131,15 @@ impl<T: Drop> Port<T> {
     {
         let queue = &self.inbox.queue;
         queue.push_as::<Put, R>(rt, &mut self.pass, message)
+    }
+
+    /// As `put`, by one attempt: the message comes back where another thread is in the way as well.
+    pub fn try_put(&mut self, message: T) -> Result<(), T>
+        ensures queue { self.new.queue ≡ self.old.queue }
+        ensures put { OnOk result (Puts self.old.view message self.new.view) }
+        ensures back { IfErr result (λ back. (back ≡ message) × (self.new ≡ self.old)) }
+    {
+        let queue = &self.inbox.queue;
+        queue.try_push_as::<Put>(&mut self.pass, message)
     }
 }

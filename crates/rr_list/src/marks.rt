@@ -1,6 +1,6 @@
 //! The promise of the marked facts, and its decided prefix.
 
-ghost use Rattle.std.specs.Prelude.{◌≡◌, ◌<◌, ◌≤◌, ◌++◌, ℕ, [], Some, None, length, slice_get, true, false, is_some, IsTrue, IfSome, IfOk, OnOk, MatchOption};
+ghost use Rattle.std.specs.Prelude.{◌≡◌, ◌<◌, ◌≤◌, ◌++◌, ℕ, [], Some, None, length, slice_get, option_map, true, false, is_some, IsTrue, IfSome, IfOk, OnOk, MatchOption};
 ghost use Rattle.std.specs.List.{All};
 ghost use Rattle.rr_types.specs.declared.promise.Standing.TheVariants as stands;
 ghost use Rattle.rr_types.specs.Facts.{instance_of, decision_of, after_fact};
@@ -163,17 +163,20 @@ impl Marks {
         }
     }
 
-    /// The command that the instance with this number has decided.
-    fn decision(&self, rows: &Rows, number: u32) -> Option<Command>
+    /// The command that the instance with this number has decided, lent.
+    fn decision<'a>(&'a self, rows: &'a Rows, number: u32) -> Option<&'a Command>
         requires marks { AreMarks self.now }
         requires moved { HaveMoved rows.now self.now }
-        ensures value { result ≡ decision_of (standing_in (marked_in rows.now self.now) number) }
+        ensures value { option_map (λ v. v.now) result ≡ decision_of (standing_in (marked_in rows.now self.now) number) }
         ensures range { IfSome result (λ _. number < instance_count) }
     {
         match self.moved(rows, number) {
-            Some(command) => Some(*command),
+            Some(command) => Some(command),
             None => match self.entry(number) {
-                Some(entry) => entry.standing.decision(),
+                Some(entry) => match &entry.standing {
+                    Standing::Decided(command) => Some(command),
+                    Standing::Open(_) => None,
+                },
                 None => None,
             },
         }
@@ -326,16 +329,24 @@ impl Marks {
         if place >= self.prefix as usize {
             return None;
         }
-        self.decision(rows, place as u32)
+        match self.decision(rows, place as u32) {
+            Some(command) => Some(*command),
+            None => None,
+        }
     }
 
-    /// The command that the instance with this number has decided once these facts are marked.
-    fn decision_after(&self, rows: &Rows, facts: &[Fact], number: u32) -> Option<Command>
+    /// The command that the instance with this number has decided once these facts are marked, lent.
+    fn decision_after<'a>(
+        &'a self,
+        rows: &'a Rows,
+        facts: &'a [Fact],
+        number: u32,
+    ) -> Option<&'a Command>
         requires marks { AreMarks self.now }
         requires moved { HaveMoved rows.now self.now }
         requires counted { IsCounted rows.now self.now }
         requires keeps { KeepsPromised (marked_in rows.now self.now) (take_on_all (marked_in rows.now self.now) facts.now) }
-        ensures value { result ≡ decision_of (standing_in (take_on_all (marked_in rows.now self.now) facts.now) number) }
+        ensures value { option_map (λ v. v.now) result ≡ decision_of (standing_in (take_on_all (marked_in rows.now self.now) facts.now) number) }
         ensures range { IfSome result (λ _. number < instance_count) }
     {
         // The instance behind the prefix decides by these facts or not at all, and needs no look-up.
@@ -364,7 +375,7 @@ impl Marks {
         let mut found = Vec::new(alloc);
         for place in self.prefix..INSTANCES {
             match self.decision_after(rows, facts, place) {
-                Some(command) => found.push(command)?,
+                Some(command) => found.push(*command)?,
                 None => return Ok(found),
             }
         }
@@ -411,10 +422,10 @@ impl Marks {
     }
 }
 
+/// The command that facts have decided for the instance with this number, lent: a command is large.
 #[tactic(auto, using(crate::proofs::MarkLemmas::decided_more, crate::proofs::MarkLemmas::decided_end))]
-/// The command that facts have decided for the instance with this number.
-fn decided_by(facts: &[Fact], number: u32) -> Option<Command>
-    ensures value { result ≡ decided_by None number facts.now }
+fn decided_by(facts: &[Fact], number: u32) -> Option<&Command>
+    ensures value { option_map (λ v. v.now) result ≡ decided_by None number facts.now }
     ensures range { IfSome result (λ _. number < instance_count) }
 {
     let mut decided = None;
@@ -427,12 +438,12 @@ fn decided_by(facts: &[Fact], number: u32) -> Option<Command>
 }
 
 /// The command that an instance has decided after a fact about it.
-fn decision_after(decided: Option<Command>, fact: &Fact) -> Option<Command>
-    ensures { result ≡ decision_after decided fact.now }
+fn decision_after<'a>(decided: Option<&'a Command>, fact: &'a Fact) -> Option<&'a Command>
+    ensures { option_map (λ v. v.now) result ≡ decision_after (option_map (λ v. v.now) decided.entry) fact.now }
 {
     match fact {
         Fact::Enter(..) => None,
         Fact::Propose(..) | Fact::Adopt(..) => decided,
-        Fact::Decide(_, command) => Some(*command),
+        Fact::Decide(_, command) => Some(command),
     }
 }

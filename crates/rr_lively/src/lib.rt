@@ -38,3 +38,4 @@ mod run;
 mod stances;
 
 pub use lively::{DEFAULT_FAULTS, Recipe, lively_run, lively_schedule};
+pub use run::may_stay;

@@ -1,6 +1,6 @@
 //! A schedule as it is drawn, with its run: each event is made and told before the next is drawn.
 
-ghost use Rattle.std.specs.Prelude.{◌≡◌, ◌≤◌, ◌+◌, ◌^◌, ◌<◌, false, IsTrue, Ok, OnOk, IfOk};
+ghost use Rattle.std.specs.Prelude.{◌≡◌, ◌↔◌, ◌≤◌, ◌+◌, ◌^◌, ◌<◌, false, IsTrue, Ok, OnOk, IfOk};
 ghost use Rattle.rr_text.specs.Scheduled.{IsEvent};
 ghost use Rattle.rr_text.specs.Words.{IsFill};
 ghost use Rattle.rr_lively.specs.Lively.{IsSoFar, MayStay, IsLivelyRun, IsScheduleTo};
@@ -62,9 +62,9 @@ fn is_event(nodes: Nodes, event: &Event) -> bool
     }
 }
 
-/// Whether an event that the report tells nothing of has left everything as it was.
-fn may_stay(cluster: &Cluster, event: &Event) -> bool
-    ensures { IsTrue result → MayStay cluster.now event.now }
+/// Whether an event that the report tells nothing of has left everything as it was. The nodes are those behind it.
+pub fn may_stay(cluster: &Cluster, event: &Event) -> bool
+    ensures { IsTrue result ↔ MayStay cluster.now event.now }
 {
     match event.what {
         Happening::At(NodeEvent::Send | NodeEvent::Acknowledge) => true,

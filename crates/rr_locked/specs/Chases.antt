@@ -1,6 +1,6 @@
 -- How a node that is far behind gets what was decided: each time that it hears a message of an instance far ahead, it asks for
 -- its first undecided one. So it hears one such message, its key, again behind each answer.
-use Rattle.std.specs.Prelude.{ℕ, ◌+◌, ◌-◌, max, Bool, true, false, ◌&&◌, ◌||◌, ◌==◌, nat_le, nat_lt, if◌then◌else◌, Option, None, Some, is_some}
+use Rattle.std.specs.Prelude.{ℕ, ◌+◌, ◌-◌, max, Bool, true, false, ◌&&◌, ◌||◌, ◌==◌, not, nat_le, nat_lt, if◌then◌else◌, Option, None, Some, is_some}
 use Rattle.rr_types.specs.declared.message.Body.{Body}
 use Rattle.rr_types.specs.declared.message.Body.TheVariants.{Estimate, Proposal, Decision, Request, Ask}
 use Rattle.rr_locked.specs.Recorded.{Sent}
@@ -129,6 +129,13 @@ heard_of_decision decided i c = if is_held decided i c then Nothing else if is_a
 -- the chase then
 abbrev pub chase_of_decision : ℕ → ℕ → Sent → Chase → Chase
 chase_of_decision decided i s c = if is_held decided i c then with_held i s c else if is_answer i c then chase_again i (answered_at i c) else c
+
+-- a message that comes where so many are decided is heard alone, and the chase stays as it is
+abbrev pub is_plain : ℕ → Body → Chase → Bool
+is_plain decided (Estimate i e) c = not (is_next decided i c)
+is_plain decided (Proposal i r x) c = not (is_next decided i c)
+is_plain decided (Decision i x) c = not (is_held decided i c || is_answer i c)
+is_plain decided _ c = true
 
 -- what is heard where a message comes and so many are decided
 abbrev pub heard_of : ℕ → Body → Chase → Hearing

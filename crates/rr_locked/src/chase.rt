@@ -1,7 +1,7 @@
 //! How a node that is far behind gets what was decided.
 
-ghost use Rattle.std.specs.Prelude.{◌≡◌, None};
-ghost use Rattle.rr_locked.specs.Chases.{is_far, is_next, is_gaining, released, chase_released, again, chase_again, chase_ticked, with_held, heard_of, heard_of_opening, heard_of_decision, chase_of, chase_of_opening, chase_of_decision, chase_sent};
+ghost use Rattle.std.specs.Prelude.{◌≡◌, None, IsTrue};
+ghost use Rattle.rr_locked.specs.Chases.{is_plain, is_held, is_answer, is_far, is_next, is_gaining, released, chase_released, again, chase_again, chase_ticked, with_held, heard_of, heard_of_opening, heard_of_decision, chase_of, chase_of_opening, chase_of_decision, chase_sent};
 
 use crate::placed::{Placed, is_above, is_of};
 use crate::sent::Sent;
@@ -72,6 +72,38 @@ impl Chase {
         }
     }
 
+    /// Whether a message that comes where so many commands are decided is heard alone, and the chase stays as it is. Mostly it is so.
+    pub fn is_plain(&self, decided: u64, sent: &Sent) -> bool
+        ensures value { result ≡ is_plain decided sent.now.message.body self.now }
+        ensures heard { IsTrue result → heard_of decided sent.now.message.body self.now ≡ Hearing.Alone }
+        ensures stays { IsTrue result → chase_of decided sent.now.message.body sent.now self.now ≡ self.now }
+    {
+        made_of!(Body, Command, Estimate, Message, Op);
+        match &sent.message().body {
+            Body::Estimate(instance, _) => !self.is_next(decided, instance.number()),
+            Body::Proposal(instance, _, _) => !self.is_next(decided, instance.number()),
+            Body::Decision(instance, _) => {
+                let instance = instance.number();
+                !self.is_held(decided, instance) && !self.is_answer(instance)
+            }
+            _ => true,
+        }
+    }
+
+    // Whether the decision of this instance is held back.
+    fn is_held(&self, decided: u64, instance: u32) -> bool
+        ensures { result ≡ is_held decided instance self.now }
+    {
+        is_of(instance, self.key) || self.is_next(decided, instance)
+    }
+
+    // Whether the decision of this instance is the first answer to the last ask.
+    fn is_answer(&self, instance: u32) -> bool
+        ensures { result ≡ is_answer instance self.now }
+    {
+        instance == self.asked && self.answered <= instance
+    }
+
     /// A message comes where so many commands are decided. Answers what the node hears.
     pub fn meet(&mut self, decided: u64, sent: &Sent) -> Hearing
         ensures heard { result ≡ heard_of decided sent.now.message.body self.old }
@@ -114,11 +146,11 @@ impl Chase {
         ensures after { self.new ≡ chase_of_decision decided instance sent.now self.old }
     {
         let instance = instance.number();
-        if is_of(instance, self.key) || self.is_next(decided, instance) {
+        if self.is_held(decided, instance) {
             self.hold(instance, sent);
             return Hearing::Nothing;
         }
-        if instance != self.asked || instance < self.answered {
+        if !self.is_answer(instance) {
             return Hearing::Alone;
         }
         self.answered = instance + 1;

@@ -45,11 +45,18 @@ impl Kept {
     pub fn keep(&mut self, sent: Sent)
         ensures { self.new ≡ kept_with sent.message.body sent self.old }
     {
+        self.note(&sent);
+    }
+
+    /// The same of a message that stays where it is.
+    pub fn note(&mut self, sent: &Sent)
+        ensures { self.new ≡ kept_with sent.now.message.body sent.now self.old }
+    {
         made_of!(Body, Command, Estimate, Message, Op);
         match &sent.message().body {
             Body::Estimate(instance, _) => self.keep_opening(*instance, sent),
             Body::Proposal(instance, _, _) => self.keep_opening(*instance, sent),
-            Body::Request(_) => self.request = Some(sent),
+            Body::Request(_) => self.request = Some(*sent),
             Body::Decision(instance, _) => {
                 keep_higher(&mut self.decision, instance.number(), sent);
             }
@@ -58,8 +65,8 @@ impl Kept {
     }
 
     // An estimate or a proposal of this instance has come.
-    fn keep_opening(&mut self, instance: Instance, sent: Sent)
-        ensures { self.new ≡ record self.old { opening = higher instance sent self.old.opening } }
+    fn keep_opening(&mut self, instance: Instance, sent: &Sent)
+        ensures { self.new ≡ record self.old { opening = higher instance sent.now self.old.opening } }
     {
         keep_higher(&mut self.opening, instance.number(), sent);
     }

@@ -44,10 +44,13 @@ pub fn is_of(instance: u32, message: Option<Placed>) -> bool
 }
 
 /// A message of this instance is kept in the place of another, unless that is of as high an instance.
-pub fn keep_higher(kept: &mut Option<Placed>, instance: u32, sent: Sent)
-    ensures { kept.new ≡ higher instance sent kept.old }
+pub fn keep_higher(kept: &mut Option<Placed>, instance: u32, sent: &Sent)
+    ensures { kept.new ≡ higher instance sent.now kept.old }
 {
     if is_above(instance, *kept) {
-        *kept = Some(Placed { instance, sent });
+        *kept = Some(Placed {
+            instance,
+            sent: *sent,
+        });
     }
 }

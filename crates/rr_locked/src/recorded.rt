@@ -131,6 +131,7 @@ pub fn mark_on(
 }
 
 /// The oldest message of a node that may leave takes the next number of the tape. `None`: none may leave.
+#[inline(never)]
 pub fn send_on(locked: &mut Locked, recording: &mut Recording) -> Result<Option<Sent>, Refusal>
     ensures none { IfOk result (λ sent. IfNone sent ((next_leaving locked.old ≡ None) × (locked.new ≡ locked.old) × (recording.new ≡ recording.old))) }
     ensures some { IfOk result (λ sent. IfSome sent (λ sent. (next_leaving locked.old ≡ Some sent.message) × (locked.new ≡ message_left locked.old) × (sent.number ≡ sent_on recording.old))) }

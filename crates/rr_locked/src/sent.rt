@@ -62,8 +62,8 @@ pub fn send(locked: &mut Locked) -> Option<Sent>
         ((next_leaving locked.old ≡ None) × (locked.new ≡ locked.old))
         (λ sent. (next_leaving locked.old ≡ Some sent.message) × (locked.new ≡ message_left locked.old) × (sent.number ≡ 0)) }
 {
-    match locked.next_message() {
-        None => None,
-        Some(cleared) => Some(Sent::new(0, cleared)),
-    }
+    let Some(cleared) = locked.next_message() else {
+        return None;
+    };
+    Some(Sent::new(0, cleared))
 }

@@ -15,7 +15,7 @@ use Rattle.rr_model.specs.NodeState.{NodeState}
 use Rattle.rr_types.specs.declared.input.Input.TheVariants as told
 use Rattle.rr_types.specs.declared.input.Input.{Input}
 use Rattle.rr_model.specs.NodeStep.{next_leaving, next_acknowledged}
-use Rattle.rr_model.specs.NodeLaws.{NodeEvent, Told, Grouped, PutBack, Marked, Left, Answered, facts_of_input}
+use Rattle.rr_model.specs.NodeLaws.{StateEvent, Told, Grouped, PutBack, Marked, Left, Answered, facts_of_input}
 use Rattle.rr_model.specs.NodeWorld.{step_of_input, told_reply, steps_of_event}
 use Rattle.rr_model.specs.NodeInWorld.{IsInWorld, IsDownIn, node_of, AreStepsAt, LeavesAlone, SaysJustThat}
 use Rattle.rr_model.proofs.Laws.{after_steps-append}
@@ -73,7 +73,7 @@ input_at p (told.Hear m) = at (m.to == p)
 input_at p input = tt
 
 -- the steps of an event are at its node
-pub event_at : (p : ℕ) (s : NodeState) (e : NodeEvent) → AreStepsAt p (steps_of_event p s e)
+pub event_at : (p : ℕ) (s : NodeState) (e : StateEvent) → AreStepsAt p (steps_of_event p s e)
 event_at p s (Told input) = steps_both p (step_of_input p input) (map (Stage p) (facts_of_input s input)) (input_at p input) (stages_at p (facts_of_input s input))
 event_at p s Grouped = tt
 event_at p s PutBack = tt
@@ -115,7 +115,7 @@ says_nothing : (w v : World) → IsAsQuiet w v → (v.wire ≡ w.wire ++ []) × 
 says_nothing w v q = (q.wire ∙ sym (append-nil w.wire), q.trace ∙ sym (append-nil w.trace))
 
 -- an event says just what it says
-pub event_says : (p : ℕ) (s : NodeState) (e : NodeEvent) → SaysJustThat p s e
+pub event_says : (p : ℕ) (s : NodeState) (e : StateEvent) → SaysJustThat p s e
 event_says p s (Told input) w =
     let a : IsAsQuiet w (after_steps w (step_of_input p input)) = input_quietly p w input in
     let b : IsAsQuiet (after_steps w (step_of_input p input)) (after_steps (after_steps w (step_of_input p input)) (map (Stage p) (facts_of_input s input))) = stages_quietly p (after_steps w (step_of_input p input)) (facts_of_input s input) in

@@ -12,7 +12,7 @@ use Rattle.rr_model.specs.Lawful.{Heard}
 use Rattle.rr_model.specs.NodeState.{NodeState, Owed, next_number}
 use Rattle.rr_types.specs.declared.input.Input.{Input}
 use Rattle.rr_model.specs.NodeStep.{node_step, group_taken, marked_running, may_leave, next_leaving, without_first_leaving, message_left}
-use Rattle.rr_model.specs.NodeLaws.{NodeEvent, Told, Grouped, Marked, Left, after_event}
+use Rattle.rr_model.specs.NodeLaws.{StateEvent, Told, Grouped, Marked, Left, after_event}
 use Rattle.rr_model.specs.NodeReached.{IsProperInput, IsProperEvent, IsReached, Happened}
 use Rattle.rr_model.specs.NodeInWorld.{sent_by_event}
 use Rattle.rr_model.specs.NodesGoOn.{MayHappenAt}
@@ -22,7 +22,7 @@ use Rattle.rr_model.proofs.NodeBeyond.{Keeps, keeps_not, keeps_on, still_keeps}
 -- events at node p alone lead from one state and messages sent to another
 pub data Alone (n p : ℕ) (c : Command) (s : NodeState) (w : List Message) : NodeState → List Message → Type 0 where
   Rests : Alone n p c s w s w
-  Does : (t : NodeState) (v : List Message) (e : NodeEvent) → Alone n p c s w t v → MayHappenAt v c t e → IsProperEvent n e → Alone n p c s w (after_event t e) (v ++ sent_by_event t e)
+  Does : (t : NodeState) (v : List Message) (e : StateEvent) → Alone n p c s w t v → MayHappenAt v c t e → IsProperEvent n e → Alone n p c s w (after_event t e) (v ++ sent_by_event t e)
 
 pub alone_on : (n p : ℕ) (c : Command) (s : NodeState) (w : List Message) (t : NodeState) (v : List Message) (u : NodeState) (x : List Message) → Alone n p c s w t v → Alone n p c t v u x → Alone n p c s w u x
 alone_on n p c s w t v _ _ a Rests = a
@@ -52,7 +52,7 @@ pub record Comes (i round : ℕ) (calm : ℕ → Type 0) (n p : ℕ) (c : Comman
 pub no_event : (i round : ℕ) (calm : ℕ → Type 0) (n p : ℕ) (c : Command) (s : NodeState) (w : List Message) (Goal : NodeState → List Message → Type 0) → Goal s w → Comes i round calm n p c s w Goal
 no_event i round calm n p c s w Goal g = record { to = s; sent = w; alone = Rests; keeps = keeps_not i round (calm p) s; goal = g }
 
-pub one_event : (i round : ℕ) (calm : ℕ → Type 0) (n p : ℕ) (c : Command) (s : NodeState) (w : List Message) (Goal : NodeState → List Message → Type 0) (e : NodeEvent) → MayHappenAt w c s e → IsProperEvent n e → Keeps i round (calm p) s (after_event s e) → Goal (after_event s e) (w ++ sent_by_event s e) → Comes i round calm n p c s w Goal
+pub one_event : (i round : ℕ) (calm : ℕ → Type 0) (n p : ℕ) (c : Command) (s : NodeState) (w : List Message) (Goal : NodeState → List Message → Type 0) (e : StateEvent) → MayHappenAt w c s e → IsProperEvent n e → Keeps i round (calm p) s (after_event s e) → Goal (after_event s e) (w ++ sent_by_event s e) → Comes i round calm n p c s w Goal
 one_event i round calm n p c s w Goal e m r k g = record { to = after_event s e; sent = w ++ sent_by_event s e; alone = Does s w e Rests m r; keeps = k; goal = g }
 
 pub and_then : (i round : ℕ) (calm : ℕ → Type 0) (n p : ℕ) (c : Command) (s : NodeState) (w : List Message) (P Q : NodeState → List Message → Type 0) → Comes i round calm n p c s w P → ((t : NodeState) (v : List Message) → Alone n p c s w t v → P t v → Comes i round calm n p c t v Q) → Comes i round calm n p c s w Q

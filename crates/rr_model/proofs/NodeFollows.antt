@@ -18,7 +18,7 @@ use Rattle.rr_model.specs.NodeState.{NodeState}
 use Rattle.rr_types.specs.declared.input.Input.{Input}
 use Rattle.rr_types.specs.declared.input.Input.TheVariants.{Submit, Hear}
 use Rattle.rr_model.specs.NodeStep.{node_step, group_taken, group_put_back, marked_running, message_left, acknowledged, next_leaving, next_acknowledged, started}
-use Rattle.rr_model.specs.NodeLaws.{IsOfSubmitted, hear_message, hear_command, AreLawful, NodeEvent, Told, Grouped, PutBack, Marked, Left, Answered, after_event, heard_input, heard_after, IsEventOfNodes, AreEventsOfNodes, facts_of_input, facts_of_event, marked_facts, IsTruthful}
+use Rattle.rr_model.specs.NodeLaws.{IsOfSubmitted, hear_message, hear_command, AreLawful, StateEvent, Told, Grouped, PutBack, Marked, Left, Answered, after_event, heard_input, heard_after, IsEventOfNodes, AreEventsOfNodes, facts_of_input, facts_of_event, marked_facts, IsTruthful}
 use Rattle.rr_model.specs.NodeWorld.{step_of_input, told_reply, IsAtNode, IsInputOfWorld, IsRunOfSteps, FollowsTheWorld, IsWorldlyNode}
 use Rattle.rr_model.proofs.Laws.{after_steps-append}
 use Rattle.rr_model.proofs.NodeKnows.{in_flight, Knows}
@@ -199,7 +199,7 @@ module _ (X : Type 0) (known : X) (n p : ℕ) (facts : List Fact) (h : Heard) (s
       at (Some q) = told q (told_reply s q) refl
 
   -- each event is a run of the world's steps
-  event_run : (e : NodeEvent) → IsEventOfNodes n e → IsRunOfSteps n p facts h s e
+  event_run : (e : StateEvent) → IsEventOfNodes n e → IsRunOfSteps n p facts h s e
   event_run (Told input) x = told_run input x
   event_run Grouped x = grouped_run
   event_run PutBack x = put_back_run
@@ -207,7 +207,7 @@ module _ (X : Type 0) (known : X) (n p : ℕ) (facts : List Fact) (h : Heard) (s
   event_run Left x = left_run
   event_run Answered x = answered_run
 
-follows : (X : Type 0) (known : X) (n p : ℕ) (facts : List Fact) (h : Heard) (s : NodeState) (es : List NodeEvent) → AreEventsOfNodes n es → Knows X n p facts h s → FollowsTheWorld n p facts h s es
+follows : (X : Type 0) (known : X) (n p : ℕ) (facts : List Fact) (h : Heard) (s : NodeState) (es : List StateEvent) → AreEventsOfNodes n es → Knows X n p facts h s → FollowsTheWorld n p facts h s es
 follows X known n p facts h s [] x K = tt
 follows X known n p facts h s (e ∷ es) x K = (event_run X known n p facts h s K e x.0, follows X known n p (facts ++ facts_of_event s e) (heard_after p h e) (after_event s e) es x.1 (event_knows X known n p facts h s e x.0 K))
 

@@ -16,7 +16,7 @@ use Rattle.rr_model.specs.Laws.{after_steps}
 use Rattle.rr_model.specs.NodeState.{NodeState}
 use Rattle.rr_types.specs.declared.input.Input.{Input}
 use Rattle.rr_model.specs.NodeStep.{node_step, group_taken, group_put_back, marked_running, message_left, acknowledged, next_leaving, next_acknowledged}
-use Rattle.rr_model.specs.NodeLaws.{AreLawful, IsOfSubmitted, NodeEvent, Told, Grouped, PutBack, Marked, Left, Answered, heard_input, facts_of_input, marked_facts, IsTruthful}
+use Rattle.rr_model.specs.NodeLaws.{AreLawful, IsOfSubmitted, StateEvent, Told, Grouped, PutBack, Marked, Left, Answered, heard_input, facts_of_input, marked_facts, IsTruthful}
 use Rattle.rr_model.specs.NodeWorld.{step_of_input, told_reply}
 use Rattle.rr_model.specs.NodeReached.{IsProperEvent, IsReached}
 use Rattle.rr_model.specs.NodeInWorld.{group_of, IsInWorld, LeavesTheGroup, IsRunInWorld, SettlesItsGroup, MarksWhatIsSettled, PutsBackItsGroup, GoesDown}
@@ -145,7 +145,7 @@ module _ (n p : ℕ) (facts : List Fact) (h : Heard) (s : NodeState) (R : IsReac
       at (Some q) = told q (told_reply s q) refl
 
   -- each event that leaves the running group is a run of the world's steps
-  pub reached_in_world : (b : Bool) (e : NodeEvent) → IsProperEvent n e → LeavesTheGroup e → IsRunInWorld b n p facts h s e
+  pub reached_in_world : (b : Bool) (e : StateEvent) → IsProperEvent n e → LeavesTheGroup e → IsRunInWorld b n p facts h s e
   reached_in_world b (Told input) x l = told_in_world b input x
   reached_in_world b Grouped x l = λ w A y. (tt, no_more b n p facts h _ w (grouped_in_world b s.running n p facts h s w refl A))
   reached_in_world b PutBack x l = absurd l

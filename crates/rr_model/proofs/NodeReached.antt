@@ -12,7 +12,7 @@ use Rattle.rr_types.specs.declared.input.Input.{Input}
 use Rattle.rr_types.specs.declared.message.Message.{Message}
 use Rattle.rr_types.specs.declared.input.Input.TheVariants.{Hear}
 use Rattle.rr_model.specs.NodeStep.{node_step}
-use Rattle.rr_model.specs.NodeLaws.{AreLawful, NodeEvent, Told, Grouped, PutBack, Marked, Left, Answered, after_event, heard_input, heard_after, IsInputOfNodes, IsEventOfNodes, facts_of_event, marked_facts, IsTruthful}
+use Rattle.rr_model.specs.NodeLaws.{AreLawful, StateEvent, Told, Grouped, PutBack, Marked, Left, Answered, after_event, heard_input, heard_after, IsInputOfNodes, IsEventOfNodes, facts_of_event, marked_facts, IsTruthful}
 use Rattle.rr_model.specs.NodeReached.{IsProperInput, IsProperEvent, IsReached, Opened, Happened, StagesLawfully, IsItself}
 use Rattle.rr_model.proofs.Permitted.{lawful_permitted}
 use Rattle.rr_model.proofs.Promised.{standing_in-promise_of, lawful_fits}
@@ -25,7 +25,7 @@ input_of_nodes : (n : ℕ) (input : Input Message) → IsProperInput n input →
 input_of_nodes n (Hear m) x = x.0
 input_of_nodes n input x = tt
 
-pub event_of_nodes : (n : ℕ) (e : NodeEvent) → IsProperEvent n e → IsEventOfNodes n e
+pub event_of_nodes : (n : ℕ) (e : StateEvent) → IsProperEvent n e → IsEventOfNodes n e
 event_of_nodes n (Told input) x = input_of_nodes n input x
 event_of_nodes n Grouped x = tt
 event_of_nodes n PutBack x = tt
@@ -67,7 +67,7 @@ module _ (n p : ℕ) (facts : List Fact) (h : Heard) (s : NodeState) (R : IsReac
       record { nodes = K.nodes; node = K.node; marked_end = K.count ∙ ap length (sym front) }
 
   -- it stages only lawful facts
-  pub reached_lawful : (e : NodeEvent) → IsProperEvent n e → StagesLawfully n p facts h s e
+  pub reached_lawful : (e : StateEvent) → IsProperEvent n e → StagesLawfully n p facts h s e
   reached_lawful (Told input) x =
       let g : Steps (Unit {0}) n p facts (heard_input p h input) s (node_step input s) = steps (Unit {0}) n p facts (heard_input p h input) s (node_step input s) (step_goes (Unit {0}) n p facts h s input (input_of_nodes n input x) (reached_knows n p facts h s R)) in
       (g.behind, g.lawful)
@@ -90,5 +90,5 @@ reached_fits n p facts h s (Opened fs fit) = fit
 reached_fits n p facts h s (Happened fs g t e r x) = fit_both n p [] fs (facts_of_event t e) (reached_fits n p fs g t r) (lawful_all_fit n p fs (heard_after p g e) (facts_of_event t e) (reached_lawful n p fs g t r e x).1)
 
 -- an event that stages nothing leaves the facts as they were
-pub reached_still : (n p : ℕ) (facts : List Fact) (h : Heard) (s : NodeState) (e : NodeEvent) → IsReached n p facts h s → IsProperEvent n e → facts_of_event s e ≡ [] → IsReached n p facts (heard_after p h e) (after_event s e)
+pub reached_still : (n p : ℕ) (facts : List Fact) (h : Heard) (s : NodeState) (e : StateEvent) → IsReached n p facts h s → IsProperEvent n e → facts_of_event s e ≡ [] → IsReached n p facts (heard_after p h e) (after_event s e)
 reached_still n p facts h s e R x none = subst (λ z. IsReached n p z (heard_after p h e) (after_event s e)) (ap (λ z. facts ++ z) none ∙ append-nil facts) (Happened facts h s e R x)

@@ -30,7 +30,7 @@ use Rattle.rr_model.specs.NodeDue.{Due, Begin, Offer, Conclude, MoveOn, pick, is
 use Rattle.rr_types.specs.declared.input.Input.{Input}
 use Rattle.rr_types.specs.declared.input.Input.TheVariants.{Submit, Suspect, Tick, Advance, Hear}
 use Rattle.rr_model.specs.NodeStep.{is_waiting, wait_for, submitted, is_list_full, is_behind, ask, ticked_on, lowest_in_round, advanced, with_vote, change_tally, count_estimate, count_ack, count_nack, catch_up, take_proposal, take_estimate, has_proposed, answer, heard_body, taken_in, node_step, group_taken, group_put_back, marked_running, may_leave, next_leaving, restored, started}
-use Rattle.rr_model.specs.NodeLaws.{NodeEvent, Told, Grouped, PutBack, Marked, Left, Answered, after_event, HasRound, IsTruthful}
+use Rattle.rr_model.specs.NodeLaws.{StateEvent, Told, Grouped, PutBack, Marked, Left, Answered, after_event, HasRound, IsTruthful}
 use Rattle.rr_model.specs.World.{World}
 use Rattle.rr_model.specs.NodeWorld.{MayCome}
 use Rattle.rr_model.specs.NodeReached.{NamesRounds, IsProperInput, IsProperEvent, opened_over, IsReached, Opened, Happened}
@@ -353,7 +353,7 @@ marked_in : (s : NodeState) → IsInRounds s → IsInRounds (marked_running s)
 unfolding marked_running
 marked_in s I = with_some s (λ facts. record s { running = None; marked = take_on_all s.marked facts; marked_end = s.marked_end + length facts }) s.running (λ facts e. same s _ refl refl I) I
 
-event_in : (n : ℕ) (s : NodeState) (e : NodeEvent) → IsProperEvent n e → IsInRounds s → IsInRounds (after_event s e)
+event_in : (n : ℕ) (s : NodeState) (e : StateEvent) → IsProperEvent n e → IsInRounds s → IsInRounds (after_event s e)
 event_in n s (Told input) x I = input_in n input s x I
 event_in n s Grouped x I = grouped_in s I
 event_in n s PutBack x I = put_back_in s I

@@ -20,7 +20,7 @@ use Rattle.rr_model.specs.NodeState.{NodeState, Row, Owed, row_of, open_instance
 use Rattle.rr_types.specs.declared.input.Input.{Input}
 use Rattle.rr_model.specs.NodeStep.{node_step, taken_in, group_taken, group_put_back, marked_running, may_leave, without_first_leaving, message_left, acknowledged, promised_row, restored, started}
 use Rattle.rr_model.specs.NodeDue.{settle}
-use Rattle.rr_model.specs.NodeLaws.{IsOfSubmitted, AreLawful, NodeEvent, Told, Grouped, PutBack, Marked, Left, Answered, after_event, heard_input, heard_after, IsInputOfNodes, IsEventOfNodes, AreEventsOfNodes, facts_of_input, facts_of_event, StagesOnlyLawful, IsLawfulNode, HasRound, IsTruthful, StaysTruthful, IsTruthfulNode}
+use Rattle.rr_model.specs.NodeLaws.{IsOfSubmitted, AreLawful, StateEvent, Told, Grouped, PutBack, Marked, Left, Answered, after_event, heard_input, heard_after, IsInputOfNodes, IsEventOfNodes, AreEventsOfNodes, facts_of_input, facts_of_event, StagesOnlyLawful, IsLawfulNode, HasRound, IsTruthful, StaysTruthful, IsTruthfulNode}
 use Rattle.rr_model.proofs.Promised.{standing_in-promise_of}
 use Rattle.rr_model.proofs.NodeRows.{stands, stands-promised}
 use Rattle.rr_model.proofs.NodeTallies.{IsHeardTally, nothing_tallied}
@@ -132,7 +132,7 @@ silent : (X : Type 0) (n p : ℕ) (facts : List Fact) (h : Heard) (s : NodeState
 silent X n p facts h s K = subst (λ z. Knows X n p z h s) (sym (append-nil facts)) K
 
 -- whatever happens at a node that knows what it should
-stages_lawful : (X : Type 0) (n p : ℕ) (facts : List Fact) (h : Heard) (s : NodeState) (es : List NodeEvent) → AreEventsOfNodes n es → Knows X n p facts h s → StagesOnlyLawful n p facts h s es
+stages_lawful : (X : Type 0) (n p : ℕ) (facts : List Fact) (h : Heard) (s : NodeState) (es : List StateEvent) → AreEventsOfNodes n es → Knows X n p facts h s → StagesOnlyLawful n p facts h s es
 stages_lawful X n p facts h s [] x K = tt
 stages_lawful X n p facts h s (Told input ∷ es) x K =
     let g : Steps X n p facts (heard_input p h input) s (node_step input s) = steps X n p facts (heard_input p h input) s (node_step input s) (step_goes X n p facts h s input x.0 K) in
@@ -231,7 +231,7 @@ module _ (X : Type 0) (known : X) (n p : ℕ) where
         answering = λ q e. subst (λ z. (reply : Reply) × (reply_of z q ≡ Some reply)) (prefix_is facts h s K ∙ ap world.decided_prefix (sym front)) (held_has_reply (node.decided_prefix s) q (found_passes (λ z. has_request (node.decided_prefix s) z) s.waiting q e).1);
       }
 
-  pub event_knows : (facts : List Fact) (h : Heard) (s : NodeState) (e : NodeEvent) → IsEventOfNodes n e → Knows X n p facts h s → Knows X n p (facts ++ facts_of_event s e) (heard_after p h e) (after_event s e)
+  pub event_knows : (facts : List Fact) (h : Heard) (s : NodeState) (e : StateEvent) → IsEventOfNodes n e → Knows X n p facts h s → Knows X n p (facts ++ facts_of_event s e) (heard_after p h e) (after_event s e)
   event_knows facts h s (Told input) x K = (steps X n p facts (heard_input p h input) s (node_step input s) (step_goes X n p facts h s input x K)).knows
   event_knows facts h s Grouped x K = silent X n p facts h _ (grouped_knows X n p facts h s K)
   event_knows facts h s PutBack x K = silent X n p facts h _ (put_back_knows X n p facts h s K)
@@ -239,7 +239,7 @@ module _ (X : Type 0) (known : X) (n p : ℕ) where
   event_knows facts h s Left x K = silent X n p facts h _ (left_knows X n p facts h s K)
   event_knows facts h s Answered x K = silent X n p facts h _ (answered_knows X n p facts h s K)
 
-  stays : (facts : List Fact) (h : Heard) (s : NodeState) (es : List NodeEvent) → AreEventsOfNodes n es → Knows X n p facts h s → StaysTruthful p facts h s es
+  stays : (facts : List Fact) (h : Heard) (s : NodeState) (es : List StateEvent) → AreEventsOfNodes n es → Knows X n p facts h s → StaysTruthful p facts h s es
   stays facts h s [] x K = moment facts h s K
   stays facts h s (e ∷ es) x K = (moment facts h s K, stays (facts ++ facts_of_event s e) (heard_after p h e) (after_event s e) es x.1 (event_knows facts h s e x.0 K))
 

@@ -12,7 +12,7 @@ use Rattle.rr_model.specs.World.{World, Step, Stage, Settle, Send, Acknowledge, 
 use Rattle.rr_model.specs.Laws.{after_steps}
 use Rattle.rr_model.specs.NodeState.{NodeState, decided_prefix}
 use Rattle.rr_model.specs.NodeStep.{group_put_back, marked_running, next_leaving, next_acknowledged}
-use Rattle.rr_model.specs.NodeLaws.{NodeEvent, Told, Grouped, PutBack, Marked, Left, Answered, after_event, heard_after, facts_of_event, marked_facts}
+use Rattle.rr_model.specs.NodeLaws.{StateEvent, Told, Grouped, PutBack, Marked, Left, Answered, after_event, heard_after, facts_of_event, marked_facts}
 use Rattle.rr_model.specs.NodeWorld.{steps_of_event, told_reply, MayCome}
 use Rattle.rr_model.specs.NodeReached.{opened_over}
 
@@ -40,7 +40,7 @@ pub record IsDownIn (p : ℕ) (kept staged : List Fact) (w : World) : Type 0 whe
   pub heard : w.heard p ≡ nothing_heard
 
 -- an event that neither marks the running group nor puts it back
-abbrev pub LeavesTheGroup : NodeEvent → Type 0
+abbrev pub LeavesTheGroup : StateEvent → Type 0
 LeavesTheGroup (Told input) = Unit {0}
 LeavesTheGroup Grouped = Unit {0}
 LeavesTheGroup PutBack = ⊥
@@ -49,7 +49,7 @@ LeavesTheGroup Left = Unit {0}
 LeavesTheGroup Answered = Unit {0}
 
 -- an event is a run of the world's steps, behind which the world has the node as the event left it
-abbrev pub IsRunInWorld : Bool → ℕ → ℕ → List Fact → Heard → NodeState → NodeEvent → Type 0
+abbrev pub IsRunInWorld : Bool → ℕ → ℕ → List Fact → Heard → NodeState → StateEvent → Type 0
 IsRunInWorld settled n p facts h s e =
     (w : World) → IsInWorld settled n p facts h s w → MayCome w p s e
     → IsRunFrom n w (steps_of_event p s e)
@@ -118,7 +118,7 @@ pub record LeavesAlone (q : ℕ) (w v : World) : Type 0 where
   pub wire : (m : Message) → Contains w.wire m → Contains v.wire m
 
 -- the messages that an event puts on the wire
-abbrev pub sent_by_event : NodeState → NodeEvent → List Message
+abbrev pub sent_by_event : NodeState → StateEvent → List Message
 sent_by_event s (Told input) = []
 sent_by_event s Grouped = []
 sent_by_event s PutBack = []
@@ -127,7 +127,7 @@ sent_by_event s Left = option_map_or (λ m. m ∷ []) (next_leaving s) []
 sent_by_event s Answered = []
 
 -- what an event lets others know
-abbrev pub told_by_event : ℕ → NodeState → NodeEvent → List world.Told
+abbrev pub told_by_event : ℕ → NodeState → StateEvent → List world.Told
 told_by_event p s (Told input) = []
 told_by_event p s Grouped = []
 told_by_event p s PutBack = []
@@ -137,7 +137,7 @@ told_by_event p s Answered =
     option_map_or (λ q. option_map_or (λ reply. Acknowledged p q reply ∷ []) (told_reply s q) []) (next_acknowledged s) []
 
 -- the steps of an event add just that to the wire and the trace
-abbrev pub SaysJustThat : ℕ → NodeState → NodeEvent → Type 0
+abbrev pub SaysJustThat : ℕ → NodeState → StateEvent → Type 0
 SaysJustThat p s e =
     (w : World)
     → ((after_steps w (steps_of_event p s e)).wire ≡ w.wire ++ sent_by_event s e)

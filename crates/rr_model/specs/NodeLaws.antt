@@ -23,23 +23,23 @@ abbrev pub AreLawful : ℕ → ℕ → List Fact → Heard → List Fact → Typ
 AreLawful n p before h [] = Unit {0}
 AreLawful n p before h (f ∷ fs) = IsLawful n p before h f × AreLawful n p (before ++ f ∷ []) h fs
 
--- what happens at a node that is up
-pub data NodeEvent : Type 0 where
+-- what happens to the state of a node that is up
+pub data StateEvent : Type 0 where
   -- an input comes in
-  Told : Input Message → NodeEvent
+  Told : Input Message → StateEvent
   -- its oldest staged facts become the running group, where none runs
-  Grouped : NodeEvent
+  Grouped : StateEvent
   -- the running group is staged again
-  PutBack : NodeEvent
+  PutBack : StateEvent
   -- the running group is marked
-  Marked : NodeEvent
+  Marked : StateEvent
   -- an owed message leaves
-  Left : NodeEvent
+  Left : StateEvent
   -- a request is acknowledged
-  Answered : NodeEvent
+  Answered : StateEvent
 
 -- the node after an event
-abbrev pub after_event : NodeState → NodeEvent → NodeState
+abbrev pub after_event : NodeState → StateEvent → NodeState
 after_event s (Told input) = node_step input s
 after_event s Grouped = if is_none s.running then group_taken s else s
 after_event s PutBack = group_put_back s
@@ -62,7 +62,7 @@ heard_input p h (Hear m) = if m.to == p then hear_message h m else h
 heard_input p h _ = h
 
 -- what node p has heard once this event has happened
-abbrev pub heard_after : ℕ → Heard → NodeEvent → Heard
+abbrev pub heard_after : ℕ → Heard → StateEvent → Heard
 heard_after p h (Told input) = heard_input p h input
 heard_after p h Grouped = h
 heard_after p h PutBack = h
@@ -76,7 +76,7 @@ IsInputOfNodes n (Hear m) = m.from < n
 IsInputOfNodes n _ = Unit {0}
 
 -- the same of an event
-abbrev pub IsEventOfNodes : ℕ → NodeEvent → Type 0
+abbrev pub IsEventOfNodes : ℕ → StateEvent → Type 0
 IsEventOfNodes n (Told input) = IsInputOfNodes n input
 IsEventOfNodes n Grouped = Unit {0}
 IsEventOfNodes n PutBack = Unit {0}
@@ -85,7 +85,7 @@ IsEventOfNodes n Left = Unit {0}
 IsEventOfNodes n Answered = Unit {0}
 
 -- the same of all events of a list
-abbrev pub AreEventsOfNodes : ℕ → List NodeEvent → Type 0
+abbrev pub AreEventsOfNodes : ℕ → List StateEvent → Type 0
 AreEventsOfNodes n [] = Unit {0}
 AreEventsOfNodes n (e ∷ es) = IsEventOfNodes n e × AreEventsOfNodes n es
 
@@ -94,7 +94,7 @@ abbrev pub facts_of_input : NodeState → Input Message → List Fact
 facts_of_input s input = drop (length s.staged) (node_step input s).staged
 
 -- the facts that an event stages; only inputs stage any
-abbrev pub facts_of_event : NodeState → NodeEvent → List Fact
+abbrev pub facts_of_event : NodeState → StateEvent → List Fact
 facts_of_event s (Told input) = facts_of_input s input
 facts_of_event s Grouped = []
 facts_of_event s PutBack = []
@@ -103,7 +103,7 @@ facts_of_event s Left = []
 facts_of_event s Answered = []
 
 -- an input stages its facts behind those staged before it
-abbrev pub StagesBehind : NodeState → NodeEvent → Type 0
+abbrev pub StagesBehind : NodeState → StateEvent → Type 0
 StagesBehind s (Told input) = (node_step input s).staged ≡ s.staged ++ facts_of_input s input
 StagesBehind s Grouped = Unit {0}
 StagesBehind s PutBack = Unit {0}
@@ -113,7 +113,7 @@ StagesBehind s Answered = Unit {0}
 
 -- node p of n, which has these facts and heard this, stages only lawful facts in these events: each is lawful behind
 -- the facts before it, after what was heard up to its event
-abbrev pub StagesOnlyLawful : ℕ → ℕ → List Fact → Heard → NodeState → List NodeEvent → Type 0
+abbrev pub StagesOnlyLawful : ℕ → ℕ → List Fact → Heard → NodeState → List StateEvent → Type 0
 StagesOnlyLawful n p facts h s [] = Unit {0}
 StagesOnlyLawful n p facts h s (e ∷ es) =
     StagesBehind s e
@@ -123,7 +123,7 @@ StagesOnlyLawful n p facts h s (e ∷ es) =
 -- node p of n, opened over these facts, stages only lawful facts, whatever happens at it
 abbrev pub IsLawfulNode : ℕ → ℕ → List Fact → Type 0
 IsLawfulNode n p facts =
-    (es : List NodeEvent) → AreEventsOfNodes n es
+    (es : List StateEvent) → AreEventsOfNodes n es
     → StagesOnlyLawful n p facts nothing_heard (started n p (promise_of facts) (length facts)) es
 
 -- an acknowledgement is of a round above 0, as all rounds of messages are
@@ -171,12 +171,12 @@ pub record IsTruthful (p : ℕ) (facts : List Fact) (h : Heard) (s : NodeState) 
   pub answering : (q : RequestNo) → next_acknowledged s ≡ Some q → (reply : Reply) × (reply_of (world.decided_prefix (marked_facts facts s)) q ≡ Some reply)
 
 -- that holds at each moment of these events
-abbrev pub StaysTruthful : ℕ → List Fact → Heard → NodeState → List NodeEvent → Type 0
+abbrev pub StaysTruthful : ℕ → List Fact → Heard → NodeState → List StateEvent → Type 0
 StaysTruthful p facts h s [] = IsTruthful p facts h s
 StaysTruthful p facts h s (e ∷ es) = IsTruthful p facts h s × StaysTruthful p (facts ++ facts_of_event s e) (heard_after p h e) (after_event s e) es
 
 -- node p of n, opened over these facts, says only what its facts back, whatever happens at it
 abbrev pub IsTruthfulNode : ℕ → ℕ → List Fact → Type 0
 IsTruthfulNode n p facts =
-    (es : List NodeEvent) → AreEventsOfNodes n es
+    (es : List StateEvent) → AreEventsOfNodes n es
     → StaysTruthful p facts nothing_heard (started n p (promise_of facts) (length facts)) es

@@ -10,7 +10,7 @@ use Rattle.rr_types.specs.declared.input.Input.{Input}
 use Rattle.rr_types.specs.declared.message.Message.{Message}
 use Rattle.rr_types.specs.declared.input.Input.TheVariants.{Hear}
 use Rattle.rr_model.specs.NodeStep.{started}
-use Rattle.rr_model.specs.NodeLaws.{AreLawful, NodeEvent, Told, Grouped, PutBack, Marked, Left, Answered, after_event, heard_after, facts_of_event, StagesBehind, marked_facts}
+use Rattle.rr_model.specs.NodeLaws.{AreLawful, StateEvent, Told, Grouped, PutBack, Marked, Left, Answered, after_event, heard_after, facts_of_event, StagesBehind, marked_facts}
 
 -- the round that a message names is above 0
 abbrev pub NamesRounds : Body → Type 0
@@ -30,7 +30,7 @@ IsProperInput n (Hear m) = (m.from < n) × NamesRounds m.body
 IsProperInput n _ = Unit {0}
 
 -- the same of an event
-abbrev pub IsProperEvent : ℕ → NodeEvent → Type 0
+abbrev pub IsProperEvent : ℕ → StateEvent → Type 0
 IsProperEvent n (Told input) = IsProperInput n input
 IsProperEvent n Grouped = Unit {0}
 IsProperEvent n PutBack = Unit {0}
@@ -47,12 +47,12 @@ pub data IsReached (n p : ℕ) : List Fact → Heard → NodeState → Type 0 wh
   -- it was opened
   Opened : (facts : List Fact) → all_fit n p [] facts ≡ true → IsReached n p facts nothing_heard (opened_over n p facts)
   -- one more event happened
-  Happened : (facts : List Fact) (h : Heard) (s : NodeState) (e : NodeEvent) → IsReached n p facts h s
+  Happened : (facts : List Fact) (h : Heard) (s : NodeState) (e : StateEvent) → IsReached n p facts h s
       → IsProperEvent n e
       → IsReached n p (facts ++ facts_of_event s e) (heard_after p h e) (after_event s e)
 
 -- an event stages its facts behind the others, and they are lawful
-abbrev pub StagesLawfully : ℕ → ℕ → List Fact → Heard → NodeState → NodeEvent → Type 0
+abbrev pub StagesLawfully : ℕ → ℕ → List Fact → Heard → NodeState → StateEvent → Type 0
 StagesLawfully n p facts h s e = StagesBehind s e × AreLawful n p facts (heard_after p h e) (facts_of_event s e)
 
 -- the state is node p's of n, and counts its marked facts

@@ -16,7 +16,7 @@ use Rattle.rr_model.specs.NodeState.{NodeState, decided_prefix}
 use Rattle.rr_types.specs.declared.input.Input.{Input}
 use Rattle.rr_types.specs.declared.input.Input.TheVariants.{Submit, Hear}
 use Rattle.rr_model.specs.NodeStep.{next_leaving, next_acknowledged, started}
-use Rattle.rr_model.specs.NodeLaws.{NodeEvent, Told, Grouped, PutBack, Marked, Left, Answered, after_event, heard_after, AreEventsOfNodes, facts_of_input, facts_of_event, HasRound, marked_facts}
+use Rattle.rr_model.specs.NodeLaws.{StateEvent, Told, Grouped, PutBack, Marked, Left, Answered, after_event, heard_after, AreEventsOfNodes, facts_of_input, facts_of_event, HasRound, marked_facts}
 
 -- what an input is in the world: a submit or a message for the node is a step, the rest is the node's own affair
 abbrev pub step_of_input : ℕ → Input Message → List Step
@@ -30,7 +30,7 @@ told_reply s q = reply_of (decided_prefix s) q
 
 -- the steps of the world that an event of node p is: an input, and each fact that it stages; the facts of the group
 -- that is marked are kept from then on; a message leaves; a reply is told
-abbrev pub steps_of_event : ℕ → NodeState → NodeEvent → List Step
+abbrev pub steps_of_event : ℕ → NodeState → StateEvent → List Step
 steps_of_event p s (Told input) = step_of_input p input ++ map (Stage p) (facts_of_input s input)
 steps_of_event p s Grouped = []
 steps_of_event p s PutBack = []
@@ -55,7 +55,7 @@ IsInputOfWorld w p (Hear m) = m.to ≡ p → Contains w.wire m
 IsInputOfWorld w p _ = Unit {0}
 
 -- where an event may come: its message is on the wire, or the one that leaves has a round above 0
-abbrev pub MayCome : World → ℕ → NodeState → NodeEvent → Type 0
+abbrev pub MayCome : World → ℕ → NodeState → StateEvent → Type 0
 MayCome w p s (Told input) = IsInputOfWorld w p input
 MayCome w p s Grouped = Unit {0}
 MayCome w p s PutBack = Unit {0}
@@ -64,14 +64,14 @@ MayCome w p s Left = (m : Message) → next_leaving s ≡ Some m → HasRound m.
 MayCome w p s Answered = Unit {0}
 
 -- an event of the node is a run of the world's steps, behind which the world has the node as the event left it
-abbrev pub IsRunOfSteps : ℕ → ℕ → List Fact → Heard → NodeState → NodeEvent → Type 0
+abbrev pub IsRunOfSteps : ℕ → ℕ → List Fact → Heard → NodeState → StateEvent → Type 0
 IsRunOfSteps n p facts h s e =
     (w : World) → IsAtNode n p facts h s w → MayCome w p s e
     → IsRunFrom n w (steps_of_event p s e)
     × IsAtNode n p (facts ++ facts_of_event s e) (heard_after p h e) (after_event s e) (after_steps w (steps_of_event p s e))
 
 -- that holds of each of these events in turn
-abbrev pub FollowsTheWorld : ℕ → ℕ → List Fact → Heard → NodeState → List NodeEvent → Type 0
+abbrev pub FollowsTheWorld : ℕ → ℕ → List Fact → Heard → NodeState → List StateEvent → Type 0
 FollowsTheWorld n p facts h s [] = Unit {0}
 FollowsTheWorld n p facts h s (e ∷ es) =
     IsRunOfSteps n p facts h s e × FollowsTheWorld n p (facts ++ facts_of_event s e) (heard_after p h e) (after_event s e) es
@@ -79,5 +79,5 @@ FollowsTheWorld n p facts h s (e ∷ es) =
 -- node p of n, opened over these facts, does nothing but steps of the world, whatever happens at it
 abbrev pub IsWorldlyNode : ℕ → ℕ → List Fact → Type 0
 IsWorldlyNode n p facts =
-    (es : List NodeEvent) → AreEventsOfNodes n es
+    (es : List StateEvent) → AreEventsOfNodes n es
     → FollowsTheWorld n p facts nothing_heard (started n p (promise_of facts) (length facts)) es

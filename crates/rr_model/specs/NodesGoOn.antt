@@ -16,7 +16,7 @@ use Rattle.rr_model.specs.NodeParts.{is_estimate_beside}
 use Rattle.rr_types.specs.declared.input.Input.{Input}
 use Rattle.rr_types.specs.declared.input.Input.TheVariants.{Submit, Advance, Hear}
 use Rattle.rr_model.specs.NodeStep.{input_refusal, next_acknowledged}
-use Rattle.rr_model.specs.NodeLaws.{NodeEvent, Told, Grouped, PutBack, Marked, Left, Answered, after_event}
+use Rattle.rr_model.specs.NodeLaws.{StateEvent, Told, Grouped, PutBack, Marked, Left, Answered, after_event}
 use Rattle.rr_model.specs.NodeReached.{opened_over}
 use Rattle.rr_model.specs.NodeInWorld.{sent_by_event}
 
@@ -33,7 +33,7 @@ MayBeTold sent c Advance = Unit {0}
 MayBeTold sent c _ = ⊥
 
 -- what may happen at a node in this state. It is told nothing that it refuses
-abbrev pub MayHappenAt : List Message → Command → NodeState → NodeEvent → Type 0
+abbrev pub MayHappenAt : List Message → Command → NodeState → StateEvent → Type 0
 MayHappenAt sent c s (Told input) = MayBeTold sent c input × (input_refusal input s ≡ None)
 MayHappenAt sent c s Grouped = Unit {0}
 MayHappenAt sent c s PutBack = ⊥
@@ -42,13 +42,13 @@ MayHappenAt sent c s Left = Unit {0}
 MayHappenAt sent c s Answered = Unit {0}
 
 -- the nodes after an event at node p
-abbrev pub after_at : ℕ → NodeEvent → Cluster → Cluster
+abbrev pub after_at : ℕ → StateEvent → Cluster → Cluster
 after_at p e g = record { state = with_at g.state p (after_event (g.state p) e); sent = g.sent ++ sent_by_event (g.state p) e }
 
 -- by events at nodes of the set alone these nodes can go on to those
 pub data CanGoOn (n : ℕ) (set : ℕ → Bool) (c : Command) (g : Cluster) : Cluster → Type 0 where
   NotAtAll : CanGoOn n set c g g
-  ByOneMore : (h : Cluster) (p : ℕ) (e : NodeEvent) → CanGoOn n set c g h → p < n → set p ≡ true
+  ByOneMore : (h : Cluster) (p : ℕ) (e : StateEvent) → CanGoOn n set c g h → p < n → set p ≡ true
       → MayHappenAt h.sent c (h.state p) e → CanGoOn n set c g (after_at p e h)
 
 -- each node has restarted over its facts, and whatever was on the wire is lost

@@ -38,7 +38,7 @@ ghost use Rattle.rr_model.specs.NodeStays.{StaysMarked};
 ghost use Rattle.rr_types.specs.declared.input.Input.{Input};
 ghost use Rattle.rr_model.specs.NodeStep.{node_step, next_leaving, next_acknowledged};
 ghost use Rattle.rr_model.specs.NodeExamples.{told_alone, decided_alone, marked_alone, asked_again, asked_by_another};
-ghost use Rattle.rr_model.specs.NodeLaws.{NodeEvent, IsTruthful, IsLawfulNode, IsTruthfulNode};
+ghost use Rattle.rr_model.specs.NodeLaws.{StateEvent, IsTruthful, IsLawfulNode, IsTruthfulNode};
 ghost use Rattle.rr_model.specs.NodeWorld.{IsWorldlyNode, steps_of_event};
 ghost use Rattle.rr_model.specs.NodeReached.{IsProperEvent, IsReached, StagesLawfully, IsItself, NamesRounds};
 ghost use Rattle.rr_model.specs.NodeInWorld.{IsInWorld, LeavesTheGroup, IsRunInWorld, SettlesItsGroup, MarksWhatIsSettled, PutsBackItsGroup, GoesDown, Restarts, AreStepsAt, LeavesAlone, SaysJustThat};
@@ -126,7 +126,7 @@ pub fn laws_of_reached_nodes()
     ensures reached_nodes_are_truthful { (n p : ℕ) (facts : List Fact) (h : Heard) (s : NodeState) → IsReached n p facts h s → IsTruthful p facts h s }
     ensures they_stay_who_they_are { (n p : ℕ) (facts : List Fact) (h : Heard) (s : NodeState) → IsReached n p facts h s → IsItself n p facts s }
     ensures their_facts_fit { (n p : ℕ) (facts : List Fact) (h : Heard) (s : NodeState) → IsReached n p facts h s → IsTrue (all_fit n p [] facts) }
-    ensures they_stage_only_lawful_facts { (n p : ℕ) (facts : List Fact) (h : Heard) (s : NodeState) (e : NodeEvent) → IsReached n p facts h s → IsProperEvent n e → StagesLawfully n p facts h s e }
+    ensures they_stage_only_lawful_facts { (n p : ℕ) (facts : List Fact) (h : Heard) (s : NodeState) (e : StateEvent) → IsReached n p facts h s → IsProperEvent n e → StagesLawfully n p facts h s e }
     ensures their_messages_name_rounds { (n p : ℕ) (facts : List Fact) (h : Heard) (s : NodeState) (m : Message) → IsReached n p facts h s → next_leaving s ≡ Some m → (m.from ≡ p) × NamesRounds m.body }
 {}
 
@@ -134,14 +134,14 @@ pub fn laws_of_reached_nodes()
 /// events is a run of the world's steps, at this node alone, and tells just what the event tells. It may go down
 /// at any moment, and restart over whatever facts the world kept, where these fit.
 pub fn laws_of_nodes_in_the_world()
-    ensures events_are_steps { (settled : Bool) (n p : ℕ) (facts : List Fact) (h : Heard) (s : NodeState) (e : NodeEvent) → IsReached n p facts h s → IsProperEvent n e → LeavesTheGroup e → IsRunInWorld settled n p facts h s e }
+    ensures events_are_steps { (settled : Bool) (n p : ℕ) (facts : List Fact) (h : Heard) (s : NodeState) (e : StateEvent) → IsReached n p facts h s → IsProperEvent n e → LeavesTheGroup e → IsRunInWorld settled n p facts h s e }
     ensures one_step_settles_the_group { (n p : ℕ) (facts : List Fact) (h : Heard) (s : NodeState) → SettlesItsGroup n p facts h s }
     ensures marking_is_no_step { (n p : ℕ) (facts : List Fact) (h : Heard) (s : NodeState) → IsReached n p facts h s → MarksWhatIsSettled n p facts h s }
     ensures putting_back_is_no_step { (n p : ℕ) (facts : List Fact) (h : Heard) (s : NodeState) → PutsBackItsGroup n p facts h s }
     ensures nodes_may_go_down { (settled : Bool) (n p : ℕ) (facts : List Fact) (h : Heard) (s : NodeState) → GoesDown settled n p facts h s }
     ensures nodes_may_restart { (n p : ℕ) (kept staged : List Fact) (count : ℕ) → Restarts n p kept staged count }
-    ensures events_happen_at_their_node { (p : ℕ) (s : NodeState) (e : NodeEvent) → AreStepsAt p (steps_of_event p s e) }
-    ensures events_say_just_that { (p : ℕ) (s : NodeState) (e : NodeEvent) → SaysJustThat p s e }
+    ensures events_happen_at_their_node { (p : ℕ) (s : NodeState) (e : StateEvent) → AreStepsAt p (steps_of_event p s e) }
+    ensures events_say_just_that { (p : ℕ) (s : NodeState) (e : StateEvent) → SaysJustThat p s e }
     ensures others_are_left_alone { (q p : ℕ) (w : World) (steps : List Step) → (q ≡ p → ⊥) → AreStepsAt p steps → LeavesAlone q w (after_steps w steps) }
     ensures nodes_left_alone_stay_in_the_world { (settled : Bool) (n q : ℕ) (facts : List Fact) (h : Heard) (s : NodeState) (w v : World) → LeavesAlone q w v → IsInWorld settled n q facts h s w → IsInWorld settled n q facts h s v }
 {}

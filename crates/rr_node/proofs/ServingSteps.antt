@@ -16,7 +16,7 @@ use Rattle.rr_model.specs.NodeState.{NodeState, decided_prefix}
 use Rattle.rr_types.specs.declared.input.Input.{Input}
 use Rattle.rr_types.specs.declared.input.Input.TheVariants.{Submit, Hear}
 use Rattle.rr_model.specs.NodeStep.{node_step, refusal_of, running_group, next_leaving, message_left, next_acknowledged, acknowledged}
-use Rattle.rr_model.specs.NodeLaws.{NodeEvent, Told, Left, Answered, after_event, heard_after, facts_of_input, facts_of_event}
+use Rattle.rr_model.specs.NodeLaws.{StateEvent, Told, Left, Answered, after_event, heard_after, facts_of_input, facts_of_event}
 use Rattle.rr_model.specs.NodeReached.{NamesRounds, IsProperEvent, Happened}
 use Rattle.rr_model.specs.NodeWorld as worldly
 use Rattle.rr_model.specs.NodeWorld.{step_of_input, steps_of_event}
@@ -74,7 +74,7 @@ flushes_on n p s t journal kept start both (Writing calls) on h = record { group
 flushes_on n p s t journal kept start both Flushed on h = (h.0, on.running ∙ h.1, h.2)
 
 -- an event of the core that leaves its group and what is kept
-module _ (n p : ℕ) (w : World) (both : Areas) (s : NodeState) (journal : Journaled) (flush : Flush) (serves : IsServing n p w both s journal flush) (e : NodeEvent) (proper : IsProperEvent n e) (leaves : LeavesTheGroup e) (comes : worldly.MayCome w p s e) where
+module _ (n p : ℕ) (w : World) (both : Areas) (s : NodeState) (journal : Journaled) (flush : Flush) (serves : IsServing n p w both s journal flush) (e : StateEvent) (proper : IsProperEvent n e) (leaves : LeavesTheGroup e) (comes : worldly.MayCome w p s e) where
   pub event_runs : IsRunFrom n w (steps_of_event p s e)
   event_runs = (reached_in_world n p serves.facts serves.heard s serves.reached (is_settled flush) e proper leaves w serves.in_world comes).0
 

@@ -1,5 +1,5 @@
 -- What a node waits for, which group of it is synced, and which events give nothing.
-use Rattle.std.specs.Prelude.{Bool, true, false, List, [], Option, None, Some}
+use Rattle.std.specs.Prelude.{Bool, true, false, ◌||◌, List, [], Option, None, Some, is_some}
 use Rattle.std.specs.Option.{option_map_or}
 use Rattle.rr_types.specs.declared.fact.Fact.{Fact}
 use Rattle.rr_types.specs.declared.refusal.Refusal.{Refusal}
@@ -7,6 +7,8 @@ use Rattle.rr_types.specs.declared.refusal.Refusal.TheVariants as because
 use Rattle.rr_types.specs.declared.event.NodeEvent.{NodeEvent}
 use Rattle.rr_types.specs.declared.message.Message.{Message}
 use Rattle.rr_types.specs.declared.event.NodeEvent.TheVariants as at
+use Rattle.rr_node.specs.declared.event.Act.{Act}
+use Rattle.rr_node.specs.declared.event.Act.TheVariants as act
 use Rattle.rr_node.specs.declared.event.Stance.{Stance}
 use Rattle.rr_node.specs.declared.event.Stance.TheVariants as waits
 use Rattle.rr_node.specs.Seats.{Doing, Stopped, Faulted, Opening, Serving, Flush, Resting, Writing, Flushed, Switching}
@@ -58,3 +60,28 @@ is_quiet event Stopped = false
 is_quiet event Faulted = false
 is_quiet event (Opening phase) = false
 is_quiet event (Serving s journal flush) = gives_nothing event
+
+-- the event that an act is
+abbrev pub event_of : Act → NodeEvent Message
+event_of act.Take = at.Take
+event_of act.Device = at.Device
+event_of act.Mark = at.Mark
+event_of act.Send = at.Send
+event_of act.Acknowledge = at.Acknowledge
+event_of act.Snap = at.Snap
+event_of act.Restart = at.Restart
+
+-- the refusal of an event that a node that does this doesn't take
+abbrev pub refusal_at : NodeEvent Message → Doing → Option Refusal
+refusal_at at.Restart Stopped = None
+refusal_at event Stopped = Some because.Down
+refusal_at at.Restart Faulted = None
+refusal_at event Faulted = Some because.Failed
+refusal_at at.Device (Opening phase) = None
+refusal_at at.Restart (Opening phase) = Some because.Busy
+refusal_at event (Opening phase) = Some because.Down
+refusal_at event (Serving s journal flush) = None
+
+-- whether an event gives nothing but, perhaps, a refusal at a node that does this: it isn't taken, or it is quiet
+abbrev pub is_plain : NodeEvent Message → Doing → Bool
+is_plain event doing = is_some (refusal_at event doing) || is_quiet event doing

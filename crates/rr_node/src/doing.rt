@@ -1,6 +1,6 @@
 //! What a node does: nothing, an opening, or its service.
 
-ghost use Rattle.std.specs.Prelude.{◌≡◌, ◌≢◌, ◌<◌, ◌↔◌, ℕ, None, Err, is_some, IsTrue, IfSome, IfOk};
+ghost use Rattle.std.specs.Prelude.{◌≡◌, ◌≢◌, ◌<◌, ◌↔◌, ℕ, true, None, Some, Err, is_some, IsTrue, IfSome, IfOk};
 ghost use Rattle.rr_types.specs.Registry.{registry_of};
 ghost use Rattle.rr_model.specs.NodeState.{decided_prefix};
 ghost use Rattle.rr_types.specs.declared.refusal.Refusal.TheVariants.{Device};
@@ -10,17 +10,17 @@ ghost use Rattle.rr_node.specs.Seats.{crashed, seat_step};
 ghost use Rattle.rr_types.specs.declared.event.NodeEvent.{NodeEvent};
 ghost use Rattle.rr_types.specs.declared.message.Message.{Message};
 ghost use Rattle.rr_node.specs.declared.serving.Serving.{Serving};
-ghost use Rattle.rr_node.specs.Stances.{is_quiet};
-ghost use Rattle.rr_node.specs.Views.{Carries, CarriesFailing, CarriesQuietly, Serves, IsServing, IsSteady, Takes, areas_of, calls_of, doing_of, due_of, seat_of};
+ghost use Rattle.rr_node.specs.Stances.{event_of, is_plain, is_quiet, refusal_at};
+ghost use Rattle.rr_node.specs.Views.{NodeDisk, Carries, CarriesFailing, CarriesQuietly, Serves, IsServing, IsSteady, Takes, areas_of, calls_of, doing_of, due_of, seat_of};
 
-use crate::event::{BoundNames, Outcome};
+use crate::event::{Act, BoundNames, Outcome};
 use crate::serving::Serving;
+use core::mem::replace_with;
 use rr_core::{Core, Opening, Progress};
 use rr_disk::{FailingDisk, MemDisk};
 use rr_journal::Journal;
 use rr_types::{Message, NodeEvent, NodeId, Nodes, Refusal};
 use std::alloc::{AllocError, Global};
-use std::mem;
 
 /// A node's disk: in memory, with calls that fail on demand.
 pub type NodeDisk = FailingDisk<MemDisk>;
@@ -90,6 +90,28 @@ impl Doing {
             Doing::Serving(_) => None,
         }
     }
+
+    /// The refusal of an act that the node doesn't take.
+    fn refusal_of_act(&self, act: Act) -> Option<Refusal>
+        ensures { result ≡ refusal_at (event_of act) (doing_of self.now) }
+    {
+        match self {
+            Doing::Stopped(_) => match act {
+                Act::Restart => None,
+                _ => Some(Refusal::Down),
+            },
+            Doing::Faulted(_) => match act {
+                Act::Restart => None,
+                _ => Some(Refusal::Failed),
+            },
+            Doing::Opening(_) => match act {
+                Act::Device => None,
+                Act::Restart => Some(Refusal::Busy),
+                _ => Some(Refusal::Down),
+            },
+            Doing::Serving(_) => None,
+        }
+    }
 }
 
 /// An event that gives nothing but, perhaps, a refusal, at a node that is up, which stays in its place. `None`: it may
@@ -106,16 +128,50 @@ pub fn go_on_quietly(
     match doing {
         Doing::Serving(serving) => match event {
             NodeEvent::Send | NodeEvent::Acknowledge => None,
-            NodeEvent::Device => match serving.flush_on() {
-                Ok(()) => Some(Ok(())),
-                Err(refusal) => {
-                    fall(alloc, doing);
-                    Some(Err(refusal))
-                }
-            },
+            NodeEvent::Device => Some(device_on(doing)),
             _ => Some(serving.take_in(alloc, event)),
         },
         _ => None,
+    }
+}
+
+/// An act that gives nothing but, perhaps, a refusal: one that the node doesn't take, or any but a send and an
+/// acknowledgement at a node that is up. `None`: it may give more, or an opening begins or goes on, and nothing has changed.
+pub fn go_on_by(alloc: Global, doing: &mut Doing, act: Act) -> Option<Result<(), Refusal>>
+    requires { (s : Serving) → doing.old ≡ Doing.Serving s → IsServing s.core.nodes s.core.node s }
+    ensures taken { is_some result ≡ is_plain (event_of act) (doing_of doing.old) }
+    ensures carries { CarriesQuietly (event_of act) doing.old result doing.new }
+{
+    match doing {
+        Doing::Serving(serving) => match act {
+            Act::Take => Some(serving.take(alloc)),
+            Act::Device => Some(device_on(doing)),
+            Act::Mark => Some(serving.mark()),
+            Act::Send | Act::Acknowledge => None,
+            Act::Snap => Some(serving.snap(alloc)),
+            Act::Restart => Some(Err(Refusal::Busy)),
+        },
+        _ => match doing.refusal_of_act(act) {
+            Some(refusal) => Some(Err(refusal)),
+            None => None,
+        },
+    }
+}
+
+/// The next device call of the job of a node that is up. Where it is refused, the node has failed.
+fn device_on(doing: &mut Doing) -> Result<(), Refusal>
+    requires { (s : Serving) × (doing.old ≡ Doing.Serving s) }
+    ensures { CarriesQuietly NodeEvent.Device doing.old (Some result) doing.new }
+{
+    match doing {
+        Doing::Serving(serving) => match serving.flush_on() {
+            Ok(()) => Ok(()),
+            Err(refusal) => {
+                fall(doing);
+                Err(refusal)
+            }
+        },
+        _ => unreachable!(),
     }
 }
 
@@ -132,49 +188,68 @@ pub fn go_on(
     requires taken { Takes event.now (doing_of doing.old) }
     ensures { Carries nodes node event.now doing.old result doing.new }
 {
-    match go_on_quietly(alloc, doing, event) {
-        Some(Ok(())) => Ok(Outcome::Quiet),
-        Some(Err(refusal)) => Err(refusal),
-        None => match doing {
-            Doing::Serving(serving) => match event {
-                NodeEvent::Send => serving.send(),
-                NodeEvent::Acknowledge => serving.reply(),
-                _ => unreachable!(),
-            },
-            _ => {
-                let (next, answer) = open_up(alloc, nodes, node, take_out(alloc, doing));
-                put_in(doing, next);
-                answer
-            }
+    match doing {
+        Doing::Serving(serving) => match event {
+            NodeEvent::Send => serving.send(),
+            NodeEvent::Acknowledge => serving.reply(),
+            _ => go_on_up(alloc, doing, event),
         },
+        _ => open_further(alloc, nodes, node, doing),
     }
 }
 
-/// Takes out what the node does. Until it is put back, the node has an empty disk.
-fn take_out(alloc: Global, doing: &mut Doing) -> Doing
-    ensures { result ≡ doing.old }
+/// An event that gives nothing but, perhaps, a refusal, at a node that is up.
+fn go_on_up(
+    alloc: Global,
+    doing: &mut Doing,
+    event: &NodeEvent<Message>,
+) -> Result<Outcome, Refusal>
+    requires own { (s : Serving) → doing.old ≡ Doing.Serving s → IsServing s.core.nodes s.core.node s }
+    requires gives { is_quiet event.now (doing_of doing.old) ≡ true }
+    ensures { (n p : ℕ) → Carries n p event.now doing.old result doing.new }
 {
-    mem::replace(doing, Doing::Stopped(FailingDisk::new(MemDisk::new(alloc))))
+    match go_on_quietly(alloc, doing, event) {
+        Some(Ok(())) => Ok(Outcome::Quiet),
+        Some(Err(refusal)) => Err(refusal),
+        None => unreachable!(),
+    }
 }
 
-/// Puts in what the node does from now on.
-fn put_in(doing: &mut Doing, next: Doing)
-    ensures { doing.new ≡ next }
+/// An event that a node takes that isn't up.
+fn open_further(
+    alloc: Global,
+    nodes: Nodes,
+    node: NodeId,
+    doing: &mut Doing,
+) -> Result<Outcome, Refusal>
+    requires exists { node < nodes }
+    requires waits { (s : Serving) → doing.old ≢ Doing.Serving s }
+    ensures { (event : NodeEvent Message) → Takes event (doing_of doing.old) → Carries nodes node event doing.old result doing.new }
 {
-    drop(mem::replace(doing, next).into_disk());
+    replace_with(
+        doing,
+        (),
+        |doing, _| -> (Doing, Result<Outcome, Refusal>)
+            requires { (node < nodes) × ((s : Serving) → doing ≢ Doing.Serving s) }
+            ensures { (event : NodeEvent Message) → Takes event (doing_of doing) → Carries nodes node event doing result.1 result.0 }
+        { open_up(alloc, nodes, node, doing) },
+    )
 }
 
 /// A device call has failed: the node has failed too.
-#[inline(never)]
-fn fall(alloc: Global, doing: &mut Doing)
+fn fall(doing: &mut Doing)
     ensures { (s : Serving) → doing.old ≡ Doing.Serving s → doing.new ≡ Doing.Faulted s.slots.disk }
 {
-    let disk = take_out(alloc, doing).into_disk();
-    put_in(doing, Doing::Faulted(disk));
+    replace_with(
+        doing,
+        (),
+        |doing, _| -> (Doing, ())
+            ensures { (s : Serving) → doing ≡ Doing.Serving s → result.0 ≡ Doing.Faulted s.slots.disk }
+        { (Doing::Faulted(doing.into_disk()), ()) },
+    )
 }
 
 /// By an event that it takes, a node that is down or has failed begins an opening, and one that opens continues it.
-#[inline(never)]
 fn open_up(
     alloc: Global,
     nodes: Nodes,
@@ -221,11 +296,13 @@ pub fn fail(
     match doing {
         Doing::Stopped(_) => Err(Refusal::Down),
         Doing::Faulted(_) => Err(Refusal::Failed),
-        _ => {
-            let (next, answer) = fail_call(alloc, nodes, node, take_out(alloc, doing), fill);
-            put_in(doing, next);
-            answer
-        }
+        _ => replace_with(
+            doing,
+            fill,
+            |doing, fill| -> (Doing, Result<Outcome, Refusal>)
+                ensures { CarriesFailing nodes node fill.items doing result.1 result.0 }
+            { fail_call(alloc, nodes, node, doing, fill) },
+        ),
     }
 }
 
@@ -251,18 +328,31 @@ fn fail_call(
 }
 
 /// A crash: whatever runs is given up, and each area keeps what the cuts and the fill leave of it.
-pub fn crash(alloc: Global, doing: &mut Doing, cut_first: u64, cut_second: u64, fill: &[u8])
+pub fn crash(doing: &mut Doing, cut_first: u64, cut_second: u64, fill: &[u8])
     ensures left { (n p : ℕ) → seat_of n p doing.new ≡ crashed cut_first cut_second fill.now (seat_of n p doing.old) }
     ensures due { due_of doing.new ≡ due_of doing.old }
     ensures down { (n p : ℕ) → due_of doing.old ≡ None → IsSteady n p doing.new }
 {
+    stop(doing);
     match doing {
         Doing::Stopped(disk) => disk.crash(cut_first, cut_second, fill),
-        _ => {
-            let mut disk = take_out(alloc, doing).into_disk();
-            disk.crash(cut_first, cut_second, fill);
-            put_in(doing, Doing::Stopped(disk));
-        }
+        _ => unreachable!(),
+    }
+}
+
+/// Whatever runs is given up: the node is down.
+fn stop(doing: &mut Doing)
+    ensures { (disk : NodeDisk) × (doing.new ≡ Doing.Stopped disk) × (disk.below.areas ≡ areas_of doing.old) × (disk.due ≡ due_of doing.old) × (disk.calls ≡ calls_of doing.old) }
+{
+    match doing {
+        Doing::Stopped(_) => (),
+        _ => replace_with(
+            doing,
+            (),
+            |doing, _| -> (Doing, ())
+                ensures { (disk : NodeDisk) × (result.0 ≡ Doing.Stopped disk) × (disk.below.areas ≡ areas_of doing) × (disk.due ≡ due_of doing) × (disk.calls ≡ calls_of doing) }
+            { (Doing::Stopped(doing.into_disk()), ()) },
+        ),
     }
 }
 

@@ -50,6 +50,25 @@ pub enum Outcome {
     Opened(u64, u64, BoundNames),
 }
 
+/// An event at a node by which it is told nothing.
+#[derive(Clone, Copy, Debug, PartialEq, Eq)]
+pub enum Act {
+    /// A flush of the staged facts begins.
+    Take,
+    /// The next device call of the opening, the flush or the switch is made.
+    Device,
+    /// The synced group is marked.
+    Mark,
+    /// The oldest message that may leave leaves.
+    Send,
+    /// The oldest decided request that waits is acknowledged.
+    Acknowledge,
+    /// A switch to a snapshot of the marked facts begins.
+    Snap,
+    /// The node is started again.
+    Restart,
+}
+
 /// What a node waits for.
 #[derive(Clone, Copy, Debug, PartialEq, Eq)]
 pub enum Stance {

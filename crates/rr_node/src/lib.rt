@@ -24,6 +24,6 @@ mod laws;
 mod node;
 mod serving;
 
-pub use event::{BoundNames, Outcome, Stance};
+pub use event::{Act, BoundNames, Outcome, Stance};
 pub use laws::laws_of_seats;
 pub use node::Node;

@@ -5,11 +5,12 @@ ghost use Rattle.rr_types.specs.declared.event.NodeEvent.{NodeEvent};
 ghost use Rattle.rr_types.specs.declared.message.Message.{Message};
 ghost use Rattle.rr_node.specs.Runs.{IsSpelt};
 ghost use Rattle.rr_node.specs.Seats.{Stopped, Gives, Fails, AtMostOneCall, crashed, seat_step};
-ghost use Rattle.rr_node.specs.Stances.{stance_of, synced_of, refusal_by, is_quiet};
+ghost use Rattle.rr_node.specs.declared.event.Act.{Act};
+ghost use Rattle.rr_node.specs.Stances.{stance_of, synced_of, refusal_by, is_quiet, is_plain, event_of};
 ghost use Rattle.rr_node.specs.Views.{quiet};
 
-use crate::doing::{Doing, crash, fail, go_on, go_on_quietly};
-use crate::event::{Outcome, Stance};
+use crate::doing::{Doing, crash, fail, go_on, go_on_by, go_on_quietly};
+use crate::event::{Act, Outcome, Stance};
 use rr_disk::{FailingDisk, MemDisk};
 use rr_types::{Fact, Message, NodeEvent, NodeId, Nodes, Refusal};
 use std::alloc::{AllocError, Global};
@@ -123,6 +124,22 @@ impl Node {
         go_on_quietly(alloc, &mut self.doing, event)
     }
 
+    /// An act that gives nothing but, perhaps, a refusal: one that the node doesn't take, or any but a send and an
+    /// acknowledgement at a node that is up. `None`: it may give more, so it is `step`'s, and the node stays as it was.
+    ///
+    /// # Errors
+    /// `OutOfMemory`, `Device`, `Failed`, `Down`, `Busy`, `TooLarge`.
+    pub fn act(&mut self, alloc: Global, act: Act) -> Option<Result<(), Refusal>>
+        ensures taken { is_some result ≡ is_plain (event_of act) self.old.doing }
+        ensures gives { IfSome result (λ answer. Gives (event_of act) self.old (quiet answer) self.new) }
+        ensures kept { result ≡ None → self.new ≡ self.old }
+        ensures one_call { AtMostOneCall self.old self.new }
+        ensures no_call { act ≢ Act.Device → self.new.calls ≡ self.old.calls }
+        ensures spelt { IsSpelt self.new.doing }
+    {
+        go_on_by(alloc, &mut self.doing, act)
+    }
+
     /// The refusal of each event but a restart and a device call, while the node isn't up. It moves nothing.
     pub fn refusal(&self) -> Option<Refusal>
         ensures value { result ≡ refusal_by self.now.doing }
@@ -150,12 +167,12 @@ impl Node {
 
     /// The node crashes: each area keeps a length from its safe to its present one, the cut where that lies between,
     /// and loose bytes take those of the fill in turn. It is no device call.
-    pub fn crash(&mut self, alloc: Global, cut_first: u32, cut_second: u32, fill: &[u8])
+    pub fn crash(&mut self, cut_first: u32, cut_second: u32, fill: &[u8])
         ensures left { self.new ≡ crashed cut_first cut_second fill.now self.old }
         ensures no_call { self.new.calls ≡ self.old.calls }
     {
         let first = u64::from(cut_first);
-        crash(alloc, &mut self.doing, first, u64::from(cut_second), fill);
+        crash(&mut self.doing, first, u64::from(cut_second), fill);
     }
 
     /// The node as this crash would leave it, over a copy of its disk. The node itself goes on.

@@ -160,7 +160,7 @@ impl Serving {
     }
 
     /// A flush of the staged facts begins.
-    fn take(&mut self, alloc: Global) -> Result<(), Refusal>
+    pub fn take(&mut self, alloc: Global) -> Result<(), Refusal>
         ensures { CarriesOn NodeEvent.Take self.old (quiet result) (Doing.Serving self.new) }
     {
         match self.flush {
@@ -170,7 +170,6 @@ impl Serving {
     }
 
     /// A flush of the staged facts begins where none runs.
-    #[inline(never)]
     fn begin(&mut self, alloc: Global) -> Result<(), Refusal>
         requires { self.old.flush ≡ Flush.Resting }
         ensures { CarriesOn NodeEvent.Take self.old (quiet result) (Doing.Serving self.new) }
@@ -180,7 +179,7 @@ impl Serving {
             Ok(None) => Ok(()),
             Ok(Some(group)) => match self.slots.begin(alloc, group) {
                 Ok(job) => {
-                    self.runs(Flush::Body(job));
+                    self.runs_next(Flush::Body(job));
                     Ok(())
                 }
                 Err((refusal, group)) => {
@@ -191,35 +190,41 @@ impl Serving {
         }
     }
 
-    /// This job runs from now on, or none.
-    fn runs(&mut self, flush: Flush)
+    /// This job runs from now on, or none, where none did.
+    fn runs_next(&mut self, flush: Flush)
+        requires { self.old.flush ≡ Flush.Resting }
         ensures { self.new ≡ record self.old { flush = flush } }
     {
-        mem::replace(&mut self.flush, flush).abandon();
+        match mem::replace(&mut self.flush, flush) {
+            Flush::Resting => (),
+            other => {
+                other.abandon();
+                unreachable!()
+            }
+        }
     }
 
     /// The synced group is marked.
-    #[inline(never)]
-    fn mark(&mut self) -> Result<(), Refusal>
+    pub fn mark(&mut self) -> Result<(), Refusal>
         ensures { CarriesOn NodeEvent.Mark self.old (quiet result) (Doing.Serving self.new) }
     {
         match mem::replace(&mut self.flush, Flush::Resting) {
             Flush::Flushed(synced) => match self.core.mark(synced) {
                 Ok(()) => Ok(()),
                 Err((refusal, synced)) => {
-                    self.runs(Flush::Flushed(synced));
+                    self.runs_next(Flush::Flushed(synced));
                     Err(refusal)
                 }
             },
             other => {
-                self.runs(other);
+                self.runs_next(other);
                 Ok(())
             }
         }
     }
 
     /// A switch to a snapshot of the marked facts begins.
-    fn snap(&mut self, alloc: Global) -> Result<(), Refusal>
+    pub fn snap(&mut self, alloc: Global) -> Result<(), Refusal>
         requires { IsServing self.old.core.nodes self.old.core.node self.old }
         ensures { CarriesOn NodeEvent.Snap self.old (quiet result) (Doing.Serving self.new) }
     {
@@ -230,7 +235,6 @@ impl Serving {
     }
 
     /// A switch begins where no job runs.
-    #[inline(never)]
     fn begin_switch(&mut self, alloc: Global) -> Result<(), Refusal>
         requires own { IsServing self.old.core.nodes self.old.core.node self.old }
         requires rests { self.old.flush ≡ Flush.Resting }
@@ -239,7 +243,7 @@ impl Serving {
         let promise = self.core.marked_promise(alloc)?;
         match self.slots.begin_snapshot(alloc, promise) {
             Ok(job) => {
-                self.runs(Flush::Switching(job));
+                self.runs_next(Flush::Switching(job));
                 Ok(())
             }
             Err(refusal) => Err(refusal),
@@ -253,7 +257,7 @@ impl Serving {
     {
         let flush = mem::replace(&mut self.flush, Flush::Resting);
         let next = step_on(&mut self.slots, flush)?;
-        self.runs(next);
+        self.runs_next(next);
         Ok(())
     }
 

@@ -1,10 +1,10 @@
--- The search through the owed messages finds and removes the first that may leave, which is the node's own and backed.
-use Rattle.std.proofs.Common.{◌≡◌, ◌+◌, ◌<◌, ◌≤◌, ℕ, suc, arith, Bool, true, false, cond, List, [], ◌∷◌, ◌++◌, length, get_or, take, drop, ap, sym, subst, ◌∙◌, append_assoc, Some, None}
+-- The search through the owed messages finds the first that may leave, and what is left without it.
+use Rattle.std.proofs.Common.{◌≡◌, ◌+◌, ◌<◌, ◌≤◌, ℕ, suc, arith, Bool, true, false, cond, List, [], ◌∷◌, ◌++◌, length, get_or, take, drop, ap, sym, ◌∙◌, append_assoc, Some, None}
 use Rattle.std.specs.Prelude.{find}
 use Rattle.std.specs.List.{remove}
 use Rattle.std.proofs.lemmas.List.{drop_all, drop_more, take_more}
 use Rattle.std.specs.Prelude.{All}
-use Rattle.std.proofs.lemmas.List.Elements.{All-get_or, All-append, All-take, All-drop}
+use Rattle.std.proofs.lemmas.List.Elements.{All-append, All-take}
 use Rattle.rr_model.specs.NodeState.{Owed}
 use Rattle.rr_parts.specs.Owing.{without_first, IsOwn}
 
@@ -34,14 +34,6 @@ module _ {X : Type 0} (p : X → Bool) where
   without_here xs k x l g e =
       let on : without_first p (drop k xs) ≡ drop (k + 1) xs = ap (without_first p) (at_place xs k x l g) ∙ ap (λ (b : Bool). cond b (drop (k + 1) xs) (x ∷ without_first p (drop (k + 1) xs))) e in
       ap (λ (r : List X). take k xs ++ r) on ∙ (let plus : k + 1 ≡ suc k = omega arith in ap (λ (n : ℕ). take k xs ++ drop n xs) plus)
-
--- one of the messages is the node's own
-pub own_at : (p : ℕ) (os : List Owed) (k : ℕ) (o : Owed) → k < length os → o ≡ get_or os k o → All (IsOwn p) os → IsOwn p o
-own_at p os k o l g a = subst (IsOwn p) (sym g) (All-get_or (IsOwn p) os k o l a)
-
--- without one of them they still are
-pub own_without : (p : ℕ) (os : List Owed) (k : ℕ) → All (IsOwn p) os → All (IsOwn p) (remove os k)
-own_without p os k a = All-append (IsOwn p) (take k os) (drop (suc k) os) (All-take (IsOwn p) k os a) (All-drop (IsOwn p) (suc k) os a)
 
 -- one message more
 pub more_owed : (before more : List Owed) (k : ℕ) (o : Owed) → k < length more → o ≡ get_or more k o → (before ++ take k more) ++ o ∷ [] ≡ before ++ take (k + 1) more

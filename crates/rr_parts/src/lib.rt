@@ -8,8 +8,8 @@
 //!   `after` takes a fact on, and `with_estimate`, `with_ack`, `with_nack` an answer. Its `Tally` is what the coordinator heard:
 //!   `pick`, `is_acknowledged` and `is_answered` say whether a majority has spoken.
 //! - What a node owes and has promised. `Unmarked` has the facts: `push_all` stages them, `run` makes a group of the oldest,
-//!   `put_back` or `drop_running` ends it. `Outbox` has the messages: `owe_all` adds, `take_leaving` gives the oldest that is free
-//!   or whose fact is marked.
+//!   `put_back` or `drop_running` ends it. `Outbox` has the messages: `owe_all` adds, `leaving_place` finds the oldest that is
+//!   free or whose fact is marked, `at` lends it, and `remove` takes it away.
 //!
 //! # Example
 //!

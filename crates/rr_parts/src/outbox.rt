@@ -1,6 +1,7 @@
 //! What a node owes, in order.
 
-ghost use Rattle.std.specs.Prelude.{◌≡◌, ◌≤◌, ◌-◌, ◌++◌, ℕ, take, [], None, Some, All, length, find, MatchOption, IfSome, OnOk, OnErr};
+ghost use Rattle.std.specs.Prelude.{◌≡◌, ◌<◌, ◌≤◌, ◌-◌, ◌++◌, take, [], None, Some, All, length, slice_get, find, MatchOption, OnOk, OnErr};
+ghost use Rattle.std.specs.List.{remove};
 ghost use Rattle.rr_model.specs.NodeStep.{may_leave};
 ghost use Rattle.rr_parts.specs.Owing.{without_first, IsOwn};
 
@@ -28,21 +29,14 @@ impl Model for Outbox {
     ghost invariant = { λ b. All (IsOwn b.node) b.owed.items };
 }
 
-/// The oldest that may leave is taken.
-#[inline(never)]
-#[tactic(auto, using(crate::proofs::OutboxLemmas::find_more, crate::proofs::OutboxLemmas::find_here, crate::proofs::OutboxLemmas::without_more, crate::proofs::OutboxLemmas::without_here, crate::proofs::OutboxLemmas::find_end, crate::proofs::OutboxLemmas::own_at, crate::proofs::OutboxLemmas::own_without))]
-fn take_leaving(owed: &mut VecDeque<Owed>, end: u64) -> Option<Owed>
-    ensures own { (p : ℕ) → All (IsOwn p) owed.old.items → All (IsOwn p) owed.new.items × IfSome result (IsOwn p) }
-    ensures taken { MatchOption result
-        ((find (may_leave end) owed.old.items ≡ None) × (owed.new.items ≡ owed.old.items))
-        (λ o. (find (may_leave end) owed.old.items ≡ Some o) × (owed.new.items ≡ without_first (may_leave end) owed.old.items)) }
+/// The place of the oldest that may leave.
+#[tactic(auto, using(crate::proofs::OutboxLemmas::find_more, crate::proofs::OutboxLemmas::find_here, crate::proofs::OutboxLemmas::without_more, crate::proofs::OutboxLemmas::without_here, crate::proofs::OutboxLemmas::find_end))]
+fn leaving_place(owed: &VecDeque<Owed>, end: u64) -> Option<usize>
+    ensures { MatchOption result (find (may_leave end) owed.now.items ≡ None) (λ k. (k < length owed.now.items) × (find (may_leave end) owed.now.items ≡ slice_get owed.now.items k) × (without_first (may_leave end) owed.now.items ≡ remove owed.now.items k)) }
 {
-    made_of!(Body, Command, Message, Op);
     for at in 0..owed.len() {
         if is_leaving(&owed[at], end) {
-            let first = owed[at];
-            owed.remove(at);
-            return Some(first);
+            return Some(at);
         }
     }
     None
@@ -65,15 +59,9 @@ fn extend(owed: &mut VecDeque<Owed>, more: &[Owed]) -> Result<(), AllocError>
     ensures kept { OnErr result (owed.new.items ≡ owed.old.items) }
 {
     made_of!(Body, Command, Message, Op);
-    let before = owed.len();
+    owed.reserve(more.len())?;
     for one in more {
-        match owed.push_back(*one) {
-            Ok(()) => (),
-            Err(_) => {
-                owed.truncate(before);
-                return Err(AllocError);
-            }
-        }
+        owed.push_back_reserved(*one);
     }
     Ok(())
 }
@@ -116,17 +104,34 @@ impl Outbox {
         self.owed.truncate(self.owed.len() - count);
     }
 
-    /// Takes the oldest message that may leave where the facts below `end` are marked: it is free, or one of them
-    /// backs it. It needs no memory.
-    pub fn take_leaving(&mut self, end: u64) -> Option<Owed>
-        ensures taken { MatchOption result
-            ((find (may_leave end) self.old.owed ≡ None) × (self.new ≡ self.old))
-            (λ o. (find (may_leave end) self.old.owed ≡ Some o) × (self.new ≡ record self.old { owed = without_first (may_leave end) self.old.owed })) }
-        ensures own { IfSome result (IsOwn self.old.node) }
+    /// The place of the oldest message that may leave where the facts below `end` are marked: it is free, or one of them
+    /// backs it.
+    pub fn leaving_place(&self, end: u64) -> Option<usize>
+        ensures { MatchOption result (find (may_leave end) self.now.owed ≡ None) (λ k. (k < length self.now.owed) × (find (may_leave end) self.now.owed ≡ slice_get self.now.owed k) × (without_first (may_leave end) self.now.owed ≡ remove self.now.owed k)) }
     {
-        if self.owed.is_empty() {
-            return None;
+        leaving_place(&self.owed, end)
+    }
+
+    /// The message at a place, lent: a message is large.
+    pub fn at(&self, place: usize) -> &Owed
+        requires { place < length self.now.owed }
+        ensures value { Some result.now ≡ slice_get self.now.owed place }
+        ensures own { IsOwn self.now.node result.now }
+    {
+        &self.owed[place]
+    }
+
+    /// Takes the message at a place away. It needs no memory.
+    pub fn remove(&mut self, place: usize)
+        requires { place < length self.old.owed }
+        ensures { self.new ≡ record self.old { owed = remove self.old.owed place } }
+    {
+        made_of!(Body, Command, Message, Op);
+        // Mostly the oldest message leaves.
+        if place == 0 {
+            self.owed.pop_front();
+        } else {
+            self.owed.remove(place);
         }
-        take_leaving(&mut self.owed, end)
     }
 }

@@ -14,7 +14,9 @@ ghost use Rattle.rr_parts.specs.Rows.{is_short, is_decide};
 
 use crate::backing::{Backing, ShortBacking};
 use crate::tally::Tally;
-use rr_types::{Command, Estimate, Fact, Instance, Kept, NodeId, OpenStanding, Standing};
+use rr_types::{
+    Command, Estimate, Fact, Instance, Kept, NodeId, Op, OpenStanding, Standing, made_of,
+};
 use std::alloc::{AllocError, Global};
 use std::marker::Model;
 
@@ -223,16 +225,41 @@ impl Row {
         }
     }
 
-    /// A copy of all that the row says.
-    fn parts(&self, alloc: Global) -> Result<FullRow, AllocError>
-        ensures ok { IfOk result (λ parts. (parts.standing ≡ self.now.standing) × (parts.backing ≡ self.now.backing) × (parts.tally ≡ self.now.tally)) }
+    /// A copy of where the row stands and what backs it in a box, with this of what was heard.
+    fn parts(&self, alloc: Global, tally: Tally) -> Result<Box<FullRow>, AllocError>
+        ensures ok { IfOk result (λ parts. (parts.value.standing ≡ self.now.standing) × (parts.value.backing ≡ self.now.backing) × (parts.value.tally ≡ tally)) }
     {
-        let tally = self.copied_tally(alloc)?;
-        Ok(FullRow {
-            standing: self.standing(),
-            backing: self.backing(),
-            tally,
-        })
+        made_of!(Command, Op);
+        match &self.form {
+            Form::Short(parts) => {
+                let parts = FullRow {
+                    standing: Standing::Decided(parts.command),
+                    backing: parts.backing.numbers(),
+                    tally,
+                };
+                let parts = Box::new(alloc, parts)?;
+                Ok(parts)
+            }
+            Form::Full(parts) => {
+                let parts = FullRow {
+                    standing: parts.standing,
+                    backing: parts.backing,
+                    tally,
+                };
+                let parts = Box::new(alloc, parts)?;
+                Ok(parts)
+            }
+        }
+    }
+
+    /// The row of an instance with these parts.
+    fn of(instance: Instance, parts: Box<FullRow>) -> Row
+        ensures { result ≡ record { instance = instance; standing = parts.value.standing; backing = parts.value.backing; tally = parts.value.tally } }
+    {
+        Row {
+            instance,
+            form: Form::Full(parts),
+        }
     }
 
     /// The row with an estimate kept; the first of a sender is kept.
@@ -244,27 +271,30 @@ impl Row {
     ) -> Result<Row, AllocError>
         ensures ok { IfOk result (λ r. r ≡ record self.now { tally = record self.now.tally { estimates = with_vote (record { sender = sender; stamp = estimate.now.stamp; command = estimate.now.command }) self.now.tally.estimates } }) }
     {
-        let mut parts = self.parts(alloc)?;
+        let tally = self.copied_tally(alloc)?;
+        let mut parts = self.parts(alloc, tally)?;
         parts.tally.keep_estimate(sender, estimate)?;
-        Row::full(alloc, self.instance, parts)
+        Ok(Row::of(self.instance, parts))
     }
 
     /// The row with an acknowledgement kept.
     pub fn with_ack(&self, alloc: Global, sender: NodeId) -> Result<Row, AllocError>
         ensures ok { IfOk result (λ r. r ≡ record self.now { tally = record self.now.tally { acks = with_member self.now.tally.acks sender } }) }
     {
-        let mut parts = self.parts(alloc)?;
+        let tally = self.copied_tally(alloc)?;
+        let mut parts = self.parts(alloc, tally)?;
         parts.tally.keep_ack(sender);
-        Row::full(alloc, self.instance, parts)
+        Ok(Row::of(self.instance, parts))
     }
 
     /// The row with a refusal kept.
     pub fn with_nack(&self, alloc: Global, sender: NodeId) -> Result<Row, AllocError>
         ensures ok { IfOk result (λ r. r ≡ record self.now { tally = record self.now.tally { nacks = with_member self.now.tally.nacks sender } }) }
     {
-        let mut parts = self.parts(alloc)?;
+        let tally = self.copied_tally(alloc)?;
+        let mut parts = self.parts(alloc, tally)?;
         parts.tally.keep_nack(sender);
-        Row::full(alloc, self.instance, parts)
+        Ok(Row::of(self.instance, parts))
     }
 
     /// Whether the instance has decided.
@@ -298,14 +328,10 @@ impl Row {
             Fact::Enter(..) | Fact::Decide(..) => Tally::new(alloc),
             Fact::Propose(..) | Fact::Adopt(..) => self.copied_tally(alloc)?,
         };
-        let mut standing = self.standing();
-        standing.take_on(fact);
-        let parts = FullRow {
-            standing,
-            backing: self.backing().after(number, fact),
-            tally,
-        };
-        Row::full(alloc, self.instance, parts)
+        let mut parts = self.parts(alloc, tally)?;
+        parts.standing.take_on(fact);
+        parts.backing = parts.backing.after(number, fact);
+        Ok(Row::of(self.instance, parts))
     }
 
     /// The row after a fact about its instance, which has this number. A Decide needs memory only where a number is 2^32 or

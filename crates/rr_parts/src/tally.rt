@@ -1,6 +1,6 @@
 //! What a coordinator keeps of the answers to its round.
 
-ghost use Rattle.std.specs.Prelude.{◌≡◌, ◌<◌, ◌≤◌, length, filter, MatchOption, IfOk, OnOk, OnErr};
+ghost use Rattle.std.specs.Prelude.{◌≡◌, ◌<◌, ◌≤◌, None, Some, length, filter, MatchOption, IfOk, OnOk, OnErr};
 ghost use Rattle.std.specs.List.{insert, range_with_len};
 ghost use Rattle.rr_types.specs.Nodes.{has_member, with_member, joined};
 ghost use Rattle.rr_model.specs.NodeState.{no_votes};
@@ -76,8 +76,8 @@ fn put_vote(votes: &mut Vec<Vote>, vote: Vote) -> Result<(), AllocError>
 }
 
 /// The better of two votes: the larger stamp, and of equal stamps the one that stands first.
-fn better(vote: Vote, other: Option<Vote>) -> Vote
-    ensures { result ≡ better vote other }
+fn better<'a>(vote: &'a Vote, other: Option<&'a Vote>) -> &'a Vote
+    ensures { MatchOption other.entry (result.now ≡ better vote.now None) (λ o. result.now ≡ better vote.now (Some o.now)) }
 {
     match other {
         Some(other) if vote.stamp < other.stamp => other,
@@ -87,14 +87,14 @@ fn better(vote: Vote, other: Option<Vote>) -> Vote
 
 /// The vote of largest stamp, of those the first.
 #[tactic(auto, using(crate::proofs::TallyLemmas::best_more))]
-fn best_vote(votes: &[Vote]) -> Option<Vote>
-    ensures { result ≡ best_vote votes.now }
+fn best_vote(votes: &[Vote]) -> Option<&Vote>
+    ensures { MatchOption result (best_vote votes.now ≡ None) (λ v. best_vote votes.now ≡ Some v.now) }
 {
     let mut best = None;
     let mut left = votes.len();
     while left > 0 {
         left -= 1;
-        best = Some(better(votes[left], best));
+        best = Some(better(&votes[left], best));
     }
     best
 }
@@ -155,13 +155,13 @@ impl Tally {
         self.nacks = self.nacks.with(sender);
     }
 
-    /// Where estimates of a majority are kept, the command of largest stamp, of those the lowest node's.
-    pub fn pick(&self, nodes: Nodes) -> Option<Command>
-        ensures { result ≡ pick nodes self.now }
+    /// Where estimates of a majority are kept, the command of largest stamp, of those the lowest node's, lent.
+    pub fn pick(&self, nodes: Nodes) -> Option<&Command>
+        ensures { MatchOption result (pick nodes self.now ≡ None) (λ v. pick nodes self.now ≡ Some v.now) }
     {
         if usize::from(majority(nodes)) <= self.estimates.len() {
             match best_vote(&self.estimates) {
-                Some(vote) => Some(vote.command),
+                Some(vote) => Some(&vote.command),
                 None => None,
             }
         } else {

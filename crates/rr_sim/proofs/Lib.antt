@@ -4,6 +4,7 @@ pub mod SubmittedLaws
 pub mod ClusterLaws
 mod AloneLaws
 mod WaitingLaws
+mod ActLaws
 pub mod RealTimeLaws
 pub mod HeadlineLaws
 pub mod NodeLaws

@@ -68,6 +68,11 @@ crash_at p cut_first cut_second fill c =
     option_map_or (λ seat. record c { seats = slice_set c.seats p (crashed cut_first cut_second fill seat) })
     (slice_get c.seats p) c
 
+-- a cluster with the line that refuses the event of a line, if it was refused
+abbrev pub with_refusal : ℕ → Option Refusal → Cluster → Cluster
+with_refusal at None c = c
+with_refusal at (Some e) c = record c { lines = c.lines ++ line.Refuse at e ∷ [] }
+
 -- what happens at node p on this line does this to a cluster; a message that isn't on the wire or is for another node does nothing
 abbrev pub happens : ℕ → ℕ → Bool → Happening → Cluster → Cluster
 happens p at starved (At event) c = option_map_or (λ e. at_node p at starved e c) (happens_as (message_on c.wire p) event) c

@@ -9,7 +9,7 @@ use Rattle.rr_text.specs.Reported.{Reported}
 use Rattle.rr_text.specs.Scheduled.{Scheduled, IsSchedule, IsEvent}
 use Rattle.rr_text.specs.ScheduleTexts.{schedule_text, event_line}
 use Rattle.rr_text.specs.ReportTexts.{report_words, report_text, line}
-use Rattle.rr_sim.specs.Clusters.{Cluster, Steps, LeadsSpelt, IsOnlyOneIfClean}
+use Rattle.rr_sim.specs.Clusters.{Cluster, Steps, LeadsSpelt, IsSpeltBehind, IsOnlyOneIfClean}
 use Rattle.rr_sim.specs.Headline.{IsRunOfTheWorld, AgreesWithOneList, KeepsRealTime}
 use Rattle.rr_sim.specs.Random.{AreDrawn, opened, IsRandom}
 
@@ -29,6 +29,11 @@ AreTold at [] old new = new ≡ old
 AreTold at (row ∷ rows) old new =
     (next : Cluster) × (added : List ReportLine) × Steps at row.event old next × (next.lines ≡ old.lines ++ added) × (row.told ≡ told added)
     × AreTold (at + 1) rows next new
+
+-- the event of a line leads a cluster to another, of which the text has grown by the lines, and which keeps none
+abbrev pub TellsOne : ℕ → Event → Cluster → Cluster → List ℕ → List ℕ → Type 0
+TellsOne at event old new before after =
+    (next : Cluster) × Steps at event old next × IsSpeltBehind event old next × (new ≡ record next { lines = [] }) × (after ≡ before ++ told next.lines)
 
 -- the bytes are the lines of events among n nodes; these lead a cluster that has no lines to another, of which the text
 -- has grown by the lines, and which keeps none

@@ -1,17 +1,20 @@
 //! A cluster of nodes with their disks: what each event of a schedule does to it.
 
-ghost use Rattle.std.specs.Prelude.{◌≡◌, ◌≢◌, ◌↔◌, ◌++◌, ℕ, Option, [], length, slice_get, option_to_list, None, Some, false, IsTrue, IfSome, MatchOption, Ok, Err, OnOk, IfOk};
-ghost use Rattle.rr_sim.specs.Clusters.{shown, note_of, new_cluster, at_node, fail_at, crash_at, event_step, IsUnheard, IsEither, Steps, TellsOfWant, IsSpeltAt, IsSpeltBehind};
-ghost use Rattle.rr_text.specs.Events.{event_of, told_at};
+ghost use Rattle.std.specs.Prelude.{◌≡◌, ◌≢◌, ◌↔◌, ◌∷◌, ◌++◌, ℕ, Option, [], length, slice_get, None, Some, false, IsTrue, IfSome, MatchOption, Ok, Err, OnOk, IfOk};
+ghost use Rattle.rr_sim.specs.Clusters.{shown, note_of, new_cluster, at_node, fail_at, crash_at, with_refusal, IsEither, Steps, TellsOfWant, IsSpeltAt, IsSpeltBehind};
+ghost use Rattle.rr_text.specs.Events.{told_at};
+ghost use Rattle.rr_text.specs.declared.report.ReportLine.{ReportLine};
 ghost use Rattle.rr_sim.specs.Random.{IsFailing, StepsInMemory};
 ghost use Rattle.rr_types.specs.declared.event.NodeEvent.{NodeEvent};
 ghost use Rattle.rr_types.specs.declared.message.Message.{Message};
-ghost use Rattle.rr_types.specs.Inputs.{happens_as};
+ghost use Rattle.rr_types.specs.declared.input.Input.{Input};
+ghost use Rattle.rr_types.specs.Inputs.{HearsNothing, happens_as};
 ghost use Rattle.rr_node.specs.Runs.{sent_by};
-ghost use Rattle.rr_sim.specs.Told.{told};
+ghost use Rattle.rr_node.specs.Stances.{event_of as event_by};
+ghost use Rattle.rr_sim.specs.Told.{told, TellsOne};
 
 use rr_disk::MemDisk;
-use rr_node::{Node, Outcome};
+use rr_node::{Act, Node, Outcome};
 use rr_registry::binding_of;
 use rr_text::text_report::push_report_lines;
 use rr_text::{BoundNames, Event, Happening, ReportLine};
@@ -48,74 +51,43 @@ pub fn shown(alloc: Global, names: &rr_node::BoundNames) -> Result<BoundNames, A
     Ok(BoundNames::new(bindings))
 }
 
-/// The message that an outcome puts on the wire.
-fn message_of(outcome: &Outcome) -> Option<Message>
-    ensures { option_to_list result ≡ sent_by (Ok outcome.now) }
-{
-    match outcome {
-        Outcome::Left(message) => Some(*message),
-        _ => None,
-    }
-}
-
-/// What a report says of an outcome.
-fn line_of(
-    alloc: Global,
-    node: NodeId,
-    line: u64,
-    sent: u64,
-    outcome: Outcome,
-) -> Result<Option<ReportLine>, AllocError>
-    ensures ok { IfOk result (λ noted. option_to_list noted ≡ note_of node line sent (Ok outcome)) }
-{
-    match outcome {
-        Outcome::Quiet => Ok(None),
-        Outcome::Left(message) => Ok(Some(ReportLine::Send {
-            number: sent,
-            message,
-        })),
-        Outcome::Replied(request, reply) => Ok(Some(ReportLine::Ack {
-            node,
-            request,
-            reply,
-        })),
-        Outcome::Opened(facts, decided, names) => {
-            let bindings = shown(alloc, &names)?;
-            Ok(Some(ReportLine::Restart {
-                node,
-                facts,
-                decided,
-                bindings,
-            }))
-        }
-    }
-}
-
-fn push_some<T: Drop>(list: &mut Vec<T>, item: Option<T>) -> Result<(), AllocError>
-    ensures ok { OnOk result (list.new.items ≡ list.old.items ++ option_to_list item) }
-{
-    if let Some(item) = item {
-        list.push(item)?;
-    }
-    Ok(())
-}
-
-/// The event at the node itself, which is no message. This is a function of its own, so that the caller has room for one
-/// event of a node and not for each kind.
-fn node_event(event: &NodeEvent<u32>) -> NodeEvent<Message>
-    requires { IsUnheard event.now }
-    ensures { (name : ℕ → Option Message) → happens_as name event.now ≡ Some result }
+/// The act that an event of a node is, by which the node is told nothing.
+fn act_of(event: &NodeEvent<u32>) -> Act
+    requires { (input : Input ℕ) → event.now ≢ NodeEvent.Told input }
+    ensures { (name : ℕ → Option Message) → happens_as name event.now ≡ Some (event_by result) }
 {
     match event {
-        NodeEvent::Told(input) => NodeEvent::Told(input.unheard()),
-        NodeEvent::Take => NodeEvent::Take,
-        NodeEvent::Device => NodeEvent::Device,
-        NodeEvent::Mark => NodeEvent::Mark,
-        NodeEvent::Send => NodeEvent::Send,
-        NodeEvent::Acknowledge => NodeEvent::Acknowledge,
-        NodeEvent::Snap => NodeEvent::Snap,
-        NodeEvent::Restart => NodeEvent::Restart,
+        NodeEvent::Told(_) => unreachable!(),
+        NodeEvent::Take => Act::Take,
+        NodeEvent::Device => Act::Device,
+        NodeEvent::Mark => Act::Mark,
+        NodeEvent::Send => Act::Send,
+        NodeEvent::Acknowledge => Act::Acknowledge,
+        NodeEvent::Snap => Act::Snap,
+        NodeEvent::Restart => Act::Restart,
     }
+}
+
+/// The event of a node that an act is.
+fn event_by(act: Act) -> NodeEvent<Message>
+    ensures { result ≡ event_by act }
+{
+    match act {
+        Act::Take => NodeEvent::Take,
+        Act::Device => NodeEvent::Device,
+        Act::Mark => NodeEvent::Mark,
+        Act::Send => NodeEvent::Send,
+        Act::Acknowledge => NodeEvent::Acknowledge,
+        Act::Snap => NodeEvent::Snap,
+        Act::Restart => NodeEvent::Restart,
+    }
+}
+
+/// Appends the line that refuses the event of a line.
+fn push_refusal(text: &mut Vec<u8>, line: u64, refusal: Refusal) -> Result<(), AllocError>
+    ensures ok { OnOk result (text.new.items ≡ text.old.items ++ told (ReportLine.Refuse line refusal ∷ [])) }
+{
+    push_report_lines(text, &[ReportLine::Refuse { line, refusal }])
 }
 
 /// Whether an event is a failing device call.
@@ -229,136 +201,226 @@ impl Cluster {
         self.lines.clear();
     }
 
+    /// An event at a node itself, but for the line that refuses it.
     fn at_node(
         &mut self,
         alloc: Global,
         node: NodeId,
-        line: u64,
         event: &NodeEvent<Message>,
-    ) -> Result<(), AllocError>
-        ensures ok { OnOk result
-            (IsEither (λ starved. self.new ≡ at_node node line starved event.now self.old)) }
+    ) -> Result<Option<Refusal>, AllocError>
+        ensures ok { IfOk result (λ refused. (at : ℕ)
+            → IsEither (λ starved. with_refusal at refused self.new ≡ at_node node at starved event.now self.old)) }
         ensures spelt { OnOk result (IsSpeltAt node self.new) }
     {
         let at = usize::from(node.index());
         if at >= self.seats.len() {
-            return Ok(());
+            return Ok(None);
         }
         let seat = &mut self.seats[at];
         match seat.step_quietly(alloc, event) {
-            Some(Ok(())) => Ok(()),
-            Some(Err(refusal)) => self.refuse(line, refusal),
-            None => {
-                let answer = seat.step(alloc, event);
-                self.take_down(alloc, node, line, answer)
-            }
+            Some(Ok(())) => Ok(None),
+            Some(Err(refusal)) => Ok(Some(refusal)),
+            None => self.step_at(alloc, node, event),
         }
     }
 
-    /// The next device call of a node fails with this fill.
-    #[inline(never)]
+    /// The same of an event that may give more than a refusal.
+    fn step_at(
+        &mut self,
+        alloc: Global,
+        node: NodeId,
+        event: &NodeEvent<Message>,
+    ) -> Result<Option<Refusal>, AllocError>
+        ensures ok { IfOk result (λ refused. (at : ℕ)
+            → IsEither (λ starved. with_refusal at refused self.new ≡ at_node node at starved event.now self.old)) }
+        ensures spelt { OnOk result (IsSpeltAt node self.new) }
+    {
+        let at = usize::from(node.index());
+        if at >= self.seats.len() {
+            return Ok(None);
+        }
+        let seat = &mut self.seats[at];
+        let answer = seat.step(alloc, event);
+        self.take_down(alloc, node, &answer)
+    }
+
+    /// An act of a node, but for the line that refuses it.
+    fn act_at(
+        &mut self,
+        alloc: Global,
+        node: NodeId,
+        act: Act,
+    ) -> Result<Option<Refusal>, AllocError>
+        ensures ok { IfOk result (λ refused. (at : ℕ)
+            → IsEither (λ starved. with_refusal at refused self.new ≡ at_node node at starved (event_by act) self.old)) }
+        ensures spelt { OnOk result (IsSpeltAt node self.new) }
+    {
+        let at = usize::from(node.index());
+        if at >= self.seats.len() {
+            return Ok(None);
+        }
+        let seat = &mut self.seats[at];
+        match seat.act(alloc, act) {
+            Some(Ok(())) => Ok(None),
+            Some(Err(refusal)) => Ok(Some(refusal)),
+            None => self.step_at(alloc, node, &event_by(act)),
+        }
+    }
+
+    /// The next device call of a node fails with this fill, but for the line that refuses it.
     fn fail_at(
         &mut self,
         alloc: Global,
         node: NodeId,
-        line: u64,
         fill: &[u8],
-    ) -> Result<(), AllocError>
-        ensures ok { OnOk result
-            (IsEither (λ starved. self.new ≡ fail_at node line starved fill.now self.old)) }
+    ) -> Result<Option<Refusal>, AllocError>
+        ensures ok { IfOk result (λ refused. (at : ℕ)
+            → IsEither (λ starved. with_refusal at refused self.new ≡ fail_at node at starved fill.now self.old)) }
         ensures spelt { OnOk result (IsSpeltAt node self.new) }
     {
         let at = usize::from(node.index());
         if at >= self.seats.len() {
-            return Ok(());
+            return Ok(None);
         }
         let fill = Vec::from_slice(alloc, fill)?;
         let seat = &mut self.seats[at];
         let answer = seat.fail(alloc, fill);
-        self.take_down(alloc, node, line, answer)
+        self.take_down(alloc, node, &answer)
     }
 
-    /// What an answer of a node puts on the wire and into the report.
-    #[inline(always)]
+    /// What an answer of a node puts on the wire and into the report, but for a refusal, which is given.
     fn take_down(
         &mut self,
         alloc: Global,
         node: NodeId,
-        line: u64,
-        answer: Result<Outcome, Refusal>,
-    ) -> Result<(), AllocError>
-        ensures ok { OnOk result (self.new ≡ record self.old {
-          wire = self.old.wire ++ sent_by answer;
-          lines = self.old.lines ++ note_of node line (length self.old.wire) answer;
+        answer: &Result<Outcome, Refusal>,
+    ) -> Result<Option<Refusal>, AllocError>
+        ensures ok { IfOk result (λ refused. (at : ℕ) → with_refusal at refused self.new ≡ record self.old {
+          wire = self.old.wire ++ sent_by answer.now;
+          lines = self.old.lines ++ note_of node at (length self.old.wire) answer.now;
         }) }
     {
         match answer {
-            Ok(Outcome::Quiet) => Ok(()),
-            Ok(outcome) => self.take_outcome(alloc, node, line, outcome),
-            Err(refusal) => self.refuse(line, refusal),
+            Ok(outcome) => {
+                self.take_outcome(alloc, node, outcome)?;
+                Ok(None)
+            }
+            Err(refusal) => Ok(Some(*refusal)),
         }
     }
 
     /// What an outcome puts on the wire and into the report.
-    #[inline(never)]
     fn take_outcome(
         &mut self,
         alloc: Global,
         node: NodeId,
-        line: u64,
-        outcome: Outcome,
+        outcome: &Outcome,
     ) -> Result<(), AllocError>
-        ensures ok { OnOk result (self.new ≡ record self.old {
-          wire = self.old.wire ++ sent_by (Ok outcome);
-          lines = self.old.lines ++ note_of node line (length self.old.wire) (Ok outcome);
+        ensures ok { OnOk result ((at : ℕ) → self.new ≡ record self.old {
+          wire = self.old.wire ++ sent_by (Ok outcome.now);
+          lines = self.old.lines ++ note_of node at (length self.old.wire) (Ok outcome.now);
         }) }
     {
-        let message = message_of(&outcome);
-        let sent = self.wire.len() as u64;
-        let noted = line_of(alloc, node, line, sent, outcome)?;
-        push_some(&mut self.lines, noted)?;
-        push_some(&mut self.wire, message)
+        match outcome {
+            Outcome::Quiet => Ok(()),
+            Outcome::Left(message) => self.carry(message),
+            Outcome::Replied(request, reply) => self.note(ReportLine::Ack {
+                node,
+                request: *request,
+                reply: *reply,
+            }),
+            Outcome::Opened(facts, decided, names) => {
+                let bindings = shown(alloc, names)?;
+                self.note(ReportLine::Restart {
+                    node,
+                    facts: *facts,
+                    decided: *decided,
+                    bindings,
+                })
+            }
+        }
     }
 
+    /// A message joins the wire, and the report tells of it.
+    fn carry(&mut self, message: &Message) -> Result<(), AllocError>
+        ensures ok { OnOk result (self.new ≡ record self.old {
+          wire = self.old.wire ++ message.now ∷ [];
+          lines = self.old.lines ++ ReportLine.Send (length self.old.wire) message.now ∷ [];
+        }) }
+    {
+        let number = self.wire.len() as u64;
+        self.lines.reserve(1)?;
+        self.wire.reserve(1)?;
+        self.lines.push_reserved(ReportLine::Send {
+            number,
+            message: *message,
+        });
+        self.wire.push_reserved(*message);
+        Ok(())
+    }
+
+    /// The report has one more line.
+    fn note(&mut self, line: ReportLine) -> Result<(), AllocError>
+        ensures ok { OnOk result (self.new ≡ record self.old { lines = self.old.lines ++ line ∷ [] }) }
+    {
+        self.lines.push(line)?;
+        Ok(())
+    }
+
+    /// A node hears the message of this number, but for the line that refuses it.
     fn hear_at(
         &mut self,
         alloc: Global,
         node: NodeId,
-        line: u64,
         number: u32,
-    ) -> Result<(), AllocError>
-        ensures ok { OnOk result
-            (Steps line (told_at node (Input.Hear number)) self.old self.new) }
-        ensures spelt { OnOk result (IsSpeltBehind (told_at node (Input.Hear number)) self.old self.new) }
+    ) -> Result<Option<Refusal>, AllocError>
+        ensures ok { IfOk result (λ refused. (at : ℕ)
+            → Steps at (told_at node (Input.Hear number)) self.old (with_refusal at refused self.new)) }
+        ensures spelt { IfOk result (λ refused. (at : ℕ)
+            → IsSpeltBehind (told_at node (Input.Hear number)) self.old (with_refusal at refused self.new)) }
     {
         match self.wire.get(number as usize) {
             Some(message) if message.to == node => match self.refusal_at(node) {
-                Some(refusal) => self.refuse(line, refusal),
+                Some(refusal) => Ok(Some(refusal)),
                 None => {
                     let event = NodeEvent::Told(Input::Hear(*message));
-                    self.at_node(alloc, node, line, &event)
+                    self.at_node(alloc, node, &event)
                 }
             },
-            _ => Ok(()),
+            _ => Ok(None),
         }
     }
 
-    #[inline(never)]
-    fn crash_at(
+    /// A node is told an input that is no message, but for the line that refuses it.
+    fn tell_at(
         &mut self,
         alloc: Global,
         node: NodeId,
-        cut_first: u32,
-        cut_second: u32,
-        fill: &[u8],
-    )
+        input: &Input<u32>,
+    ) -> Result<Option<Refusal>, AllocError>
+        requires { HearsNothing input.now }
+        ensures ok { IfOk result (λ refused. (at : ℕ)
+            → Steps at (told_at node input.now) self.old (with_refusal at refused self.new)) }
+        ensures spelt { IfOk result (λ refused. (at : ℕ)
+            → IsSpeltBehind (told_at node input.now) self.old (with_refusal at refused self.new)) }
+    {
+        match self.refusal_at(node) {
+            Some(refusal) => Ok(Some(refusal)),
+            None => {
+                let event = NodeEvent::Told(input.unheard());
+                self.at_node(alloc, node, &event)
+            }
+        }
+    }
+
+    fn crash_at(&mut self, node: NodeId, cut_first: u32, cut_second: u32, fill: &[u8])
         ensures crash { self.new ≡ crash_at node cut_first cut_second fill.now self.old }
         ensures spelt { IsSpeltAt node self.new }
     {
         let at = usize::from(node.index());
         if at < self.seats.len() {
             let seat = &mut self.seats[at];
-            seat.crash(alloc, cut_first, cut_second, fill);
+            seat.crash(cut_first, cut_second, fill);
         }
     }
 
@@ -367,47 +429,48 @@ impl Cluster {
         ensures ok { OnOk result (Steps line event.now self.old self.new) }
         ensures spelt { OnOk result (IsSpeltBehind event.now self.old self.new) }
     {
+        match self.take(alloc, event)? {
+            None => Ok(()),
+            Some(refusal) => self.refuse(line, refusal),
+        }
+    }
+
+    /// What an event does, memory aside, but for the line that refuses it.
+    fn take(&mut self, alloc: Global, event: &Event) -> Result<Option<Refusal>, AllocError>
+        ensures ok { IfOk result (λ refused. (at : ℕ) → Steps at event.now self.old (with_refusal at refused self.new)) }
+        ensures spelt { IfOk result (λ refused. (at : ℕ) → IsSpeltBehind event.now self.old (with_refusal at refused self.new)) }
+    {
         let node = event.node;
         match &event.what {
             Happening::At(NodeEvent::Told(Input::Hear(number))) => {
-                self.hear_at(alloc, node, line, *number)
+                self.hear_at(alloc, node, *number)
             }
-            Happening::At(event) => self.take_event(alloc, node, line, event),
-            Happening::Fail(fill) => self.fail_at(alloc, node, line, fill.as_bytes()),
+            Happening::At(NodeEvent::Told(input)) => self.tell_at(alloc, node, input),
+            Happening::At(event) => self.act_at(alloc, node, act_of(event)),
+            Happening::Fail(fill) => self.fail_at(alloc, node, fill.as_bytes()),
             Happening::Crash { cut_0, cut_1, fill } => {
-                self.crash_at(alloc, node, *cut_0, *cut_1, fill.as_bytes());
-                Ok(())
+                self.crash_at(node, *cut_0, *cut_1, fill.as_bytes());
+                Ok(None)
             }
         }
     }
 
-    /// What an event of a node does that is no message.
-    fn take_event(
+    /// What the event of a line does, memory aside. The lines that the report then has are appended to a text, and kept no
+    /// longer. It fails only where the wire, the report or the text can't grow.
+    pub(crate) fn step_told(
         &mut self,
         alloc: Global,
-        node: NodeId,
         line: u64,
-        event: &NodeEvent<u32>,
+        event: &Event,
+        text: &mut Vec<u8>,
     ) -> Result<(), AllocError>
-        requires { IsUnheard event.now }
-        ensures ok { OnOk result (Steps line (event_of node event.now) self.old self.new) }
-        ensures spelt { OnOk result (IsSpeltBehind (event_of node event.now) self.old self.new) }
+        ensures ok { OnOk result (TellsOne line event.now self.old self.new text.old.items text.new.items) }
     {
-        match self.refusal_of(node, event) {
-            Some(refusal) => self.refuse(line, refusal),
-            None => self.at_node(alloc, node, line, &node_event(event)),
-        }
-    }
-
-    /// The refusal of an event that wants its node up, where the node isn't. It moves nothing.
-    fn refusal_of(&self, node: NodeId, event: &NodeEvent<u32>) -> Option<Refusal>
-        requires { IsUnheard event.now }
-        ensures refused { IfSome result (λ e. (at : ℕ) → event_step at false (event_of node event.now) self.now ≡ record self.now { lines = self.now.lines ++ note_of 0 at 0 (Err e) }) }
-        ensures spelt { IfSome result (λ _. IsSpeltAt node self.now) }
-    {
-        match event {
-            NodeEvent::Restart | NodeEvent::Device => None,
-            _ => self.refusal_at(node),
+        let refused = self.take(alloc, event)?;
+        self.tell(text)?;
+        match refused {
+            None => Ok(()),
+            Some(refusal) => push_refusal(text, line, refusal),
         }
     }
 

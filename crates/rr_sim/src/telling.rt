@@ -41,8 +41,7 @@ fn tell_events<O: Sink>(
     let mut rest = bytes;
     while let Some((event, behind)) = next_event(alloc, nodes, rest, line)? {
         tell_read(line, rest, bytes, out);
-        cluster.step(alloc, line, &event)?;
-        cluster.tell(text)?;
+        cluster.step_told(alloc, line, &event, text)?;
         rest = behind;
         line += 1;
     }

@@ -1,6 +1,6 @@
 //! Estimates: of open instances, and the one with which an instance enters a round.
 
-ghost use Rattle.std.specs.Prelude.{◌≡◌, ◌-◌, length, slice_get, find, false, Some};
+ghost use Rattle.std.specs.Prelude.{◌≡◌, ◌-◌, length, slice_get, find, option_map, false, Some};
 ghost use Rattle.std.specs.Option.{option_map_or};
 ghost use Rattle.rr_step.specs.Places.{is_estimate_of, is_estimate_beside, is_free, leaves_estimate, enters_with};
 
@@ -53,38 +53,38 @@ fn is_free(
     !is_among(taken, command.request) && !is_estimate_beside(step, instances, instance, command)
 }
 
-/// The first free command of these.
-pub fn first_free_of(
+/// The first free command of these, lent.
+pub fn first_free_of<'a>(
     step: &Step<'_>,
     instances: &[Instance],
     instance: Instance,
     taken: &[RequestNo],
-    pool: &[Command],
-) -> Option<Command>
-    ensures { result ≡ find (is_free step.now.state.rows instances.now instance taken.now) pool.now }
+    pool: &'a [Command],
+) -> Option<&'a Command>
+    ensures { option_map (λ v. v.now) result ≡ find (is_free step.now.state.rows instances.now instance taken.now) pool.now }
 {
     for command in pool {
         if is_free(step, instances, instance, taken, command) {
-            return Some(*command);
+            return Some(command);
         }
     }
     None
 }
 
-/// The first free command of the pool.
-pub fn first_free_in(
+/// The first free command of the pool, lent.
+pub fn first_free_in<'a>(
     step: &Step<'_>,
     instances: &[Instance],
     instance: Instance,
     taken: &[RequestNo],
-    pool: Values<'_, Command>,
-) -> Option<Command>
-    ensures { result ≡ find (is_free step.now.state.rows instances.now instance taken.now) pool.entry }
+    pool: Values<'a, Command>,
+) -> Option<&'a Command>
+    ensures { option_map (λ v. v.now) result ≡ find (is_free step.now.state.rows instances.now instance taken.now) pool.entry }
 {
     let mut left = pool;
     while let Some(command) = left.next_ref() {
         if is_free(step, instances, instance, taken, command) {
-            return Some(*command);
+            return Some(command);
         }
     }
     None

@@ -297,10 +297,10 @@ impl<'a> Step<'a> {
         has_come && !is_among(&self.changes.taken, request)
     }
 
-    /// The first pool command that is no estimate of one of these instances but one.
+    /// The first pool command that is no estimate of one of these instances but one, lent: a command is large.
     #[tactic(auto, using(crate::proofs::PoolLemmas::free_in_base, crate::proofs::PoolLemmas::free_in_pooled))]
-    pub fn first_free(&self, instances: &[Instance], instance: Instance) -> Option<Command>
-        ensures { result ≡ first_free self.now.state.rows instances.now instance self.now.state.pool }
+    pub fn first_free(&self, instances: &[Instance], instance: Instance) -> Option<&Command>
+        ensures { option_map (λ v. v.now) result ≡ first_free self.now.state.rows instances.now instance self.now.state.pool }
     {
         let base = self.base;
         let taken = self.changes.taken.as_slice();

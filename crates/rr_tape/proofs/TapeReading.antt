@@ -1,23 +1,24 @@
 -- Tapes: what is read is printed so, and what is printed is read again.
-use Rattle.std.proofs.Common.{◌≡◌, ℕ, ◌^◌, ◌<◌, ◌≤◌, List, [], ◌∷◌, ◌++◌, Option, None, Some, Result, Ok, Err, MatchResult, codes, decimal, refl, ap, subst, ◌∙◌, sym, arith}
-use Rattle.std.specs.Prelude.{IfOk, IfErr}
-use Rattle.std.proofs.lemmas.List.{append_assoc}
+use Rattle.std.proofs.Common.{◌≡◌, ℕ, ◌^◌, ◌<◌, ◌≤◌, List, [], ◌∷◌, ◌++◌, Option, None, Some, Result, Ok, Err, MatchResult, length, codes, decimal, refl, ap, subst, ◌∙◌, sym, arith, ◌⊎◌, inl, inr}
+use Rattle.std.specs.Prelude.{IfOk, IfErr, MatchOption}
+use Rattle.std.proofs.lemmas.List.{append_assoc, length-append}
 use Rattle.std.proofs.lemmas.Option.{same_Some}
 use Rattle.rr_types.specs.declared.command.RequestNo.{RequestNo}
 use Rattle.rr_types.specs.declared.command.Reply.{Reply}
 use Rattle.rr_types.specs.declared.refusal.Refusal.{Refusal}
-use Rattle.rr_types.specs.declared.refusal.Refusal.TheVariants.{OutOfMemory}
+use Rattle.rr_types.specs.declared.refusal.Refusal.TheVariants.{OutOfMemory, BadEvent}
 use Rattle.rr_text.specs.declared.event.Event.{Event}
 use Rattle.rr_text.specs.declared.event.Happening.{Happening}
 use Rattle.rr_text.specs.declared.event.Happening.TheVariants.{At, Fail, Crash}
 use Rattle.rr_types.specs.declared.event.NodeEvent.TheVariants as events
 use Rattle.rr_text.specs.declared.kind.EventKind.{EventKind}
 use Rattle.rr_text.specs.declared.kind.EventKind.TheVariants as keywords
-use Rattle.rr_text.specs.Events.{event_of}
+use Rattle.rr_types.specs.declared.input.Input.TheVariants.{Hear}
+use Rattle.rr_text.specs.Events.{event_of, told_at}
 use Rattle.rr_text.specs.Words.{spaced}
 use Rattle.rr_text.specs.Lines.{HasNoLine, IsFault}
 use Rattle.rr_text.specs.Scheduled.{IsEvent}
-use Rattle.rr_text.specs.ScheduleTexts.{event_text}
+use Rattle.rr_text.specs.ScheduleTexts.{event_text, event_line}
 use Rattle.rr_text.specs.ReportTexts.{request_text, message_words, reply_words}
 use Rattle.rr_text.specs.Reading.{◌>>=◌, cut_at, small_at, node_at, keyword_text, keyword_at, fields_at}
 use Rattle.rr_text.proofs.CutLemmas.{AtLeast, bind_some, cut_again, cut_takes}
@@ -165,6 +166,31 @@ event_uncut n bytes few cut = line_uncut (tape_lines n few) bytes cut
 
 pub event_unread : (n : ℕ) (bytes text rest : List ℕ) → n ≤ 7 → cut_at 10 bytes ≡ Some (text, rest) → None ≡ tape_event_at n text → HasNoLine (IsTapeEvent n) tape_line bytes
 event_unread n bytes text rest few cut unread = line_unread (tape_lines n few) bytes text rest cut unread
+
+-- what is read of a line is what the bytes begin with
+pub line_ok : {B : Type 0} (now : B → List ℕ) (n line : ℕ) (bytes text rest : List ℕ) (read : Option TapeEvent) (r : Result (Option (TapeEvent × B)) Refusal) → n ≤ 7 → line < 1000002 → cut_at 10 bytes ≡ Some (text, rest) → tape_event_at n text ≡ read
+    → IfOk r (λ next. MatchOption next ⊥ (λ x. (read ≡ Some x.0) × (now x.1 ≡ rest))) → IfOk r (λ next. MatchOption next (bytes ≡ []) (λ x. (line < 1000002) × IsTapeEvent n x.0 × (bytes ≡ tape_line x.0 ++ now x.1)))
+line_ok now n line bytes text rest read (Ok None) few lt cut is given = absurd given
+line_ok now n line bytes text rest read (Ok (Some x)) few lt cut is given =
+    let taken = event_taken n bytes text rest x.0 few cut (sym given.0 ∙ sym is) in
+    (lt, taken.0, taken.1 ∙ ap (λ (y : List ℕ). tape_line x.0 ++ y) (sym given.1))
+line_ok now n line bytes text rest read (Err e) few lt cut is given = tt
+
+-- where nothing is read of a line, the bytes begin with no event
+pub line_err : {X : Type 0} (n line : ℕ) (bytes text rest : List ℕ) (read : Option TapeEvent) (r : Result X Refusal) → n ≤ 7 → cut_at 10 bytes ≡ Some (text, rest) → tape_event_at n text ≡ read
+    → IfErr r (λ e. (e ≡ OutOfMemory) ⊎ ((e ≡ BadEvent line) × (read ≡ None))) → IfErr r (λ e. (e ≡ OutOfMemory) ⊎ ((e ≡ BadEvent line) × (0 < length bytes) × ((1000002 ≤ line) ⊎ HasNoLine (IsTapeEvent n) tape_line bytes)))
+line_err n line bytes text rest read (Ok x) few cut is given = tt
+line_err n line bytes text rest read (Err e) few cut is given =
+    let whole : bytes ≡ text ++ 10 ∷ rest = cut_takes 10 bytes text rest cut in
+    let some : 0 < length bytes = rw whole (omega (arith, length-append text (10 ∷ rest))) in
+    elim given [
+      | inl memory ↦ inl memory
+      | inr bad ↦ inr (bad.0, some, inr (event_unread n bytes text rest few cut (sym bad.1 ∙ sym is)))
+    ]
+
+-- a line on hearing a message
+pub heard_taken : (n p k : ℕ) (bytes rest : List ℕ) → IsEvent n (told_at p (Hear k)) → bytes ≡ event_line (told_at p (Hear k)) ++ rest → IsTapeEvent n (of_node p (Told (Hear k))) × (bytes ≡ tape_line (of_node p (Told (Hear k))) ++ rest)
+heard_taken n p k bytes rest fits is = (record { node = fits.node; what = fits.fields }, is)
 
 pub tapes : AreTexts IsTapeEvent tape_line tape_event_at
 tapes = record { lines = tape_lines }

@@ -1,5 +1,5 @@
 -- Reading words of a tape from left to right: what each reader of the code gives.
-use Rattle.std.specs.Prelude.{ℕ, nat_lt, nat_le, ◌&&◌, if◌then◌else◌, List, [], ◌∷◌, codes, Option, None, Some}
+use Rattle.std.specs.Prelude.{ℕ, Bool, true, false, nat_lt, nat_le, ◌&&◌, if◌then◌else◌, List, [], ◌∷◌, codes, Option, None, Some}
 use Rattle.std.specs.Str.{bytes_eq}
 use Rattle.rr_types.specs.declared.command.RequestNo.{RequestNo}
 use Rattle.rr_types.specs.declared.command.Command.{Command}
@@ -22,6 +22,7 @@ use Rattle.rr_text.specs.declared.kind.EventKind.TheVariants as keywords
 use Rattle.rr_text.specs.Words.{spaced}
 use Rattle.rr_text.specs.ReportTexts.{reply_words}
 use Rattle.rr_text.specs.Reading.{◌>>=◌, cut_at, find_by, number_at, small_at, node_at, set_at, op_at, message_kind_at, keyword_at, fields_at}
+use Rattle.rr_tape.specs.declared.sent_read.Heading.{Heading}
 use Rattle.rr_tape.specs.declared.tape_event.TapeEvent.{TapeEvent}
 use Rattle.rr_tape.specs.declared.tape_event.Recorded.{Recorded}
 use Rattle.rr_tape.specs.declared.tape_event.Recorded.TheVariants as tapes
@@ -123,9 +124,25 @@ as_recorded e = recorded_of e.what >>= λ what. Some (record { node = e.node; wh
 abbrev pub sent_at : ℕ → List ℕ → Option TapeEvent
 sent_at n text = both_at small_at (message_at n) text >>= λ x. Some (record { node = x.1.from; what = tapes.Sent x.0 x.1 })
 
+-- a message of this heading that was sent and says this, where it says something
+abbrev pub sent_as : Heading → Option Body → Option TapeEvent
+sent_as h said = said >>= λ b. Some (record { node = h.from; what = tapes.Sent h.number (record { from = h.from; to = h.to; body = b }) })
+
+-- whether a message of this kind has a command
+abbrev pub has_command : MessageKind → Bool
+has_command Estimate = true
+has_command Proposal = true
+has_command Decision = true
+has_command Request = true
+has_command _ = false
+
 -- a request that was acknowledged: the node, the request number and the reply
 abbrev pub acked_at : ℕ → List ℕ → Option TapeEvent
 acked_at n text = both_at (node_at n) (both_at request_at reply_at) text >>= λ x. Some (record { node = x.0; what = tapes.Acked x.1.0 x.1.1 })
+
+-- the event of a tape that an event of a schedule of this keyword is, among n nodes
+abbrev pub told_at : ℕ → EventKind → List ℕ → Option TapeEvent
+told_at n k text = fields_at n k text >>= as_recorded
 
 -- the event of a tape of this keyword among n nodes
 abbrev pub tape_fields_at : ℕ → EventKind → List ℕ → Option TapeEvent

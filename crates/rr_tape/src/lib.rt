@@ -19,6 +19,7 @@
 #![tactic(auto)]
 
 mod message_read;
+mod sent_read;
 mod tape;
 mod tape_event;
 mod tape_law;

@@ -1,85 +1,105 @@
 //! Reading tapes.
 
-ghost use Rattle.std.specs.Prelude.{◌≡◌, ◌+◌, ◌<◌, ◌≤◌, ◌++◌, ◌⊎◌, [], None, Some, MatchOption, MatchResult, IfOk, IfErr, length};
+ghost use Rattle.std.specs.Prelude.{◌≡◌, ℕ, ◌+◌, ◌<◌, ◌≤◌, ◌++◌, ◌⊎◌, [], None, Some, MatchOption, MatchResult, IfOk, IfErr, length};
 ghost use Rattle.std.specs.List.{flat_map, AllByRecursion};
 ghost use Rattle.rr_text.specs.Lines.{nodes_line, ArePrinted, HasNoLine, IsStop, IsFirstFault, IsFault};
-ghost use Rattle.rr_tape.specs.Reading.{message_at, sent_at, acked_at, tape_fields_at, tape_event_at};
+ghost use Rattle.rr_tape.specs.Reading.{acked_at, told_at, tape_fields_at, tape_event_at};
 ghost use Rattle.rr_tape.specs.Taped.{Taped, IsTapeEvent, IsTape};
 ghost use Rattle.rr_tape.specs.TapeTexts.{tape_line, tape_text};
 
-use crate::message_read::{body, reply, request};
+use crate::message_read::{reply, request};
+use crate::sent_read::sent_line;
 use crate::tape::Tape;
 use crate::tape_event::{Recorded, TapeEvent, as_recorded};
-use rr_text::text_parse::{fields, first_line};
-use rr_text::text_read::{cut, cut_line, keyword, node, small_number};
+use rr_text::text_parse::{fields, first_line, heard_line};
+use rr_text::text_read::{cut, cut_line, keyword, node};
 use rr_text::{EventKind, MAX_EVENTS};
-use rr_types::{Body, Command, Message, Nodes, Op, Refusal, Reply, made_of};
-use std::alloc::{AllocError, Global};
+use rr_types::{Body, Command, Input, Message, Nodes, Op, Refusal, Reply, made_of};
+use std::alloc::Global;
 
-fn message(nodes: Nodes, text: &[u8]) -> Option<Message>
-    ensures { result ≡ message_at nodes text.now }
+// The event of a line on an acknowledgement, whose words behind the keyword these are, and the bytes behind it.
+#[inline(never)]
+fn acked_line<'a>(
+    nodes: Nodes,
+    text: &[u8],
+    rest: &'a [u8],
+    line: u64,
+) -> Result<Option<(TapeEvent, &'a [u8])>, Refusal>
+    ensures ok { IfOk result (λ next. MatchOption next ⊥ (λ x. (acked_at nodes text.now ≡ Some x.0) × (x.1.now ≡ rest.now))) }
+    ensures err { IfErr result (λ e. (e ≡ Refusal.BadEvent line) × (acked_at nodes text.now ≡ None)) }
 {
-    let (word, rest) = cut(text, b' ')?;
-    let from = node(nodes, word)?;
-    let (word, rest) = cut(rest, b' ')?;
-    let to = node(nodes, word)?;
-    let body = body(nodes, rest)?;
-    Some(Message { from, to, body })
+    made_of!(Body, Command, Message, Op, Reply);
+    let Some((word, words)) = cut(text, b' ') else {
+        return Err(Refusal::BadEvent(line));
+    };
+    let Some(node) = node(nodes, word) else {
+        return Err(Refusal::BadEvent(line));
+    };
+    let Some((word, words)) = cut(words, b' ') else {
+        return Err(Refusal::BadEvent(line));
+    };
+    let Some(request) = request(word) else {
+        return Err(Refusal::BadEvent(line));
+    };
+    let Some(reply) = reply(words) else {
+        return Err(Refusal::BadEvent(line));
+    };
+    let what = Recorded::Acked { request, reply };
+    Ok(Some((TapeEvent { node, what }, rest)))
 }
 
-fn sent(nodes: Nodes, text: &[u8]) -> Option<TapeEvent>
-    ensures { result ≡ sent_at nodes text.now }
-{
-    let (word, rest) = cut(text, b' ')?;
-    let number = small_number(word)?;
-    let message = message(nodes, rest)?;
-    Some(TapeEvent {
-        node: message.from,
-        what: Recorded::Sent { number, message },
-    })
-}
-
-fn acked(nodes: Nodes, text: &[u8]) -> Option<TapeEvent>
-    ensures { result ≡ acked_at nodes text.now }
-{
-    let (word, rest) = cut(text, b' ')?;
-    let node = node(nodes, word)?;
-    let (word, rest) = cut(rest, b' ')?;
-    let request = request(word)?;
-    let reply = reply(rest)?;
-    Some(TapeEvent {
-        node,
-        what: Recorded::Acked { request, reply },
-    })
-}
-
-fn tape_fields(
+// The event of a line that a schedule may have too, and the bytes behind it.
+#[inline(never)]
+fn told_line<'a>(
     alloc: Global,
     nodes: Nodes,
     keyword: EventKind,
     text: &[u8],
-) -> Result<Option<TapeEvent>, AllocError>
-    ensures ok { IfOk result (λ e. e ≡ tape_fields_at nodes keyword text.now) }
+    rest: &'a [u8],
+    line: u64,
+) -> Result<Option<(TapeEvent, &'a [u8])>, Refusal>
+    ensures ok { IfOk result (λ next. MatchOption next ⊥ (λ x. (told_at nodes keyword text.now ≡ Some x.0) × (x.1.now ≡ rest.now))) }
+    ensures err { IfErr result (λ e. (e ≡ Refusal.OutOfMemory) ⊎ ((e ≡ Refusal.BadEvent line) × (told_at nodes keyword text.now ≡ None))) }
 {
-    match keyword {
-        EventKind::Send => Ok(sent(nodes, text)),
-        EventKind::Ack => Ok(acked(nodes, text)),
-        _ => match fields(alloc, nodes, keyword, text)? {
-            Some(event) => Ok(as_recorded(&event)),
-            None => Ok(None),
-        },
+    made_of!(Body, Command, Message, Op, Reply);
+    let Some(event) = fields(alloc, nodes, keyword, text)? else {
+        return Err(Refusal::BadEvent(line));
+    };
+    match as_recorded(&event) {
+        Some(event) => Ok(Some((event, rest))),
+        None => Err(Refusal::BadEvent(line)),
     }
 }
 
-fn tape_event(alloc: Global, nodes: Nodes, text: &[u8]) -> Result<Option<TapeEvent>, AllocError>
-    ensures ok { IfOk result (λ e. e ≡ tape_event_at nodes text.now) }
+// The event of a line of this keyword, whose words behind it these are, and the bytes behind the line.
+fn fields_line<'a>(
+    alloc: Global,
+    nodes: Nodes,
+    keyword: EventKind,
+    text: &[u8],
+    rest: &'a [u8],
+    line: u64,
+) -> Result<Option<(TapeEvent, &'a [u8])>, Refusal>
+    ensures ok { IfOk result (λ next. MatchOption next ⊥ (λ x. (tape_fields_at nodes keyword text.now ≡ Some x.0) × (x.1.now ≡ rest.now))) }
+    ensures err { IfErr result (λ e. (e ≡ Refusal.OutOfMemory) ⊎ ((e ≡ Refusal.BadEvent line) × (tape_fields_at nodes keyword text.now ≡ None))) }
+{
+    match keyword {
+        EventKind::Send => sent_line(nodes, text, rest, line),
+        EventKind::Ack => acked_line(nodes, text, rest, line),
+        _ => told_line(alloc, nodes, keyword, text, rest, line),
+    }
+}
+
+// What the first word of a line means, and the text behind it.
+fn first_keyword(text: &[u8]) -> Option<(EventKind, &[u8])>
+    ensures { (n : ℕ) → MatchOption result (tape_event_at n text.now ≡ None) (λ x. tape_event_at n text.now ≡ tape_fields_at n x.0 x.1.now) }
 {
     let Some((word, rest)) = cut(text, b' ') else {
-        return Ok(None);
+        return None;
     };
     match keyword(word) {
-        Some(keyword) => tape_fields(alloc, nodes, keyword, rest),
-        None => Ok(None),
+        Some(keyword) => Some((keyword, rest)),
+        None => None,
     }
 }
 
@@ -87,8 +107,30 @@ fn tape_event(alloc: Global, nodes: Nodes, text: &[u8]) -> Result<Option<TapeEve
 ///
 /// # Errors
 /// `BadEvent` of the line where no event stands at the front of the bytes, or a million stand before it; `OutOfMemory`.
-#[tactic(auto, using(crate::proofs::TapeReading::event_uncut, crate::proofs::TapeReading::event_unread))]
+#[tactic(auto, using(crate::proofs::TapeReading::heard_taken))]
 pub fn next_tape_event(
+    alloc: Global,
+    nodes: Nodes,
+    bytes: &[u8],
+    line: u64,
+) -> Result<Option<(TapeEvent, &[u8])>, Refusal>
+    ensures ok { IfOk result (λ next. MatchOption next (bytes.now ≡ []) (λ x. (line < 1000002) × IsTapeEvent nodes x.0 × (bytes.now ≡ tape_line x.0 ++ x.1.now))) }
+    ensures err { IfErr result (λ e. (e ≡ Refusal.OutOfMemory) ⊎ ((e ≡ Refusal.BadEvent line) × (0 < length bytes.now) × ((1000002 ≤ line) ⊎ HasNoLine (IsTapeEvent nodes) tape_line bytes.now))) }
+{
+    made_of!(Body, Command, Message, Op, Reply);
+    let _count = nodes.count();
+    if line < MAX_EVENTS as u64 + 2 {
+        if let Some((node, message, rest)) = heard_line(nodes, bytes) {
+            let what = Recorded::Told(Input::Hear(message));
+            return Ok(Some((TapeEvent { node, what }, rest)));
+        }
+    }
+    any_tape_event(alloc, nodes, bytes, line)
+}
+
+// The event of a line, whatever it is.
+#[inline(never)]
+fn any_tape_event(
     alloc: Global,
     nodes: Nodes,
     bytes: &[u8],
@@ -108,10 +150,10 @@ pub fn next_tape_event(
     let Some((text, rest)) = cut_line(bytes) else {
         return Err(Refusal::BadEvent(line));
     };
-    match tape_event(alloc, nodes, text)? {
-        Some(event) => Ok(Some((event, rest))),
-        None => Err(Refusal::BadEvent(line)),
-    }
+    let Some((keyword, words)) = first_keyword(text) else {
+        return Err(Refusal::BadEvent(line));
+    };
+    fields_line(alloc, nodes, keyword, words, rest, line)
 }
 
 #[tactic(auto, using(rr_text::proofs::LineReading::so_far_none, rr_text::proofs::LineReading::so_far_on, rr_text::proofs::LineReading::so_far_all, rr_text::proofs::LineReading::so_far_stop))]

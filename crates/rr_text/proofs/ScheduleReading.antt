@@ -12,10 +12,12 @@ use Rattle.rr_text.specs.Lines.{HasNoLine, IsFault}
 use Rattle.rr_text.specs.Scheduled.{Scheduled, IsEvent, IsSchedule}
 use Rattle.rr_text.specs.ScheduleTexts.{event_text, event_line, schedule_text}
 use Rattle.rr_text.specs.declared.kind.EventKind.{EventKind}
-use Rattle.rr_text.specs.Events.{event_of}
-use Rattle.rr_text.specs.Reading.{cut_at, keyword_text, plain_at, said_at, event_at}
+use Rattle.rr_text.specs.declared.kind.EventKind.TheVariants.{Hear}
+use Rattle.rr_types.specs.declared.input.Input.TheVariants as input
+use Rattle.rr_text.specs.Events.{event_of, told_at}
+use Rattle.rr_text.specs.Reading.{cut_at, small_at, keyword_text, plain_at, said_at, event_at}
 use Rattle.rr_text.proofs.CutLemmas.{cut_takes}
-use Rattle.rr_text.proofs.NumberLemmas.{node_again}
+use Rattle.rr_text.proofs.NumberLemmas.{node_again, small_takes}
 use Rattle.rr_text.proofs.EventReading.{fields_takes, event_takes, event_again, line_again}
 use Rattle.rr_text.proofs.LineReading.{AreLines, line_uncut, line_unread}
 use Rattle.rr_text.proofs.TextReading.{AreTexts, IsText, text_one, only_memory}
@@ -60,6 +62,17 @@ plain_taken n k p d e bytes rest few lt digit read is =
     let line : event_line e ++ rest ≡ keyword_text k ++ 32 ∷ d ∷ 10 ∷ rest =
     append_assoc (event_text e) (10 ∷ []) rest ∙ ap (λ (y : List ℕ). y ++ 10 ∷ rest) text ∙ append_assoc (keyword_text k) (32 ∷ d ∷ []) (10 ∷ rest) in
     (was.fits, is ∙ sym line)
+
+-- the keyword `hear`, a space, a node's digit, a space and a number up to a line feed are the line of the event
+pub heard_taken : (n : ℕ) (p d k : ℕ) (bytes words word rest : List ℕ) → n ≤ 7 → p < n → d ≡ 48 + p → bytes ≡ keyword_text Hear ++ 32 ∷ d ∷ 32 ∷ words → cut_at 10 words ≡ Some (word, rest) → small_at word ≡ Some k
+    → IsEvent n (told_at p (input.Hear k)) × (bytes ≡ event_line (told_at p (input.Hear k)) ++ rest)
+heard_taken n p d k bytes words word rest few lt digit is cut number =
+    let t = small_takes word k number in
+    let one : decimal p ≡ d ∷ [] = decimal_digit p (omega arith) ∙ ap (λ (c : ℕ). c ∷ []) (sym digit) in
+    let behind : words ≡ decimal k ++ 10 ∷ rest = cut_takes 10 words word rest cut ∙ ap (λ (y : List ℕ). y ++ 10 ∷ rest) (sym t.0) in
+    let line : event_line (told_at p (input.Hear k)) ++ rest ≡ keyword_text Hear ++ 32 ∷ d ∷ 32 ∷ (decimal k ++ 10 ∷ rest) =
+    ap (λ (y : List ℕ). (keyword_text Hear ++ 32 ∷ (y ++ 32 ∷ decimal k) ++ 10 ∷ []) ++ rest) one ∙ append_assoc (keyword_text Hear ++ 32 ∷ d ∷ 32 ∷ decimal k) (10 ∷ []) rest in
+    (record { node = lt; fields = t.1 }, is ∙ ap (λ (y : List ℕ). keyword_text Hear ++ 32 ∷ d ∷ 32 ∷ y) behind ∙ sym line)
 
 pub schedules : AreTexts IsEvent event_line event_at
 schedules = record { lines = event_lines }

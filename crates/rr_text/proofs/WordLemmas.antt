@@ -1,6 +1,7 @@
 -- Steps in which words are printed.
 use Rattle.std.proofs.Common.{decimal, map, ◌≡◌, ℕ, suc, ◌+◌, ◌-◌, ◌/◌, ◌%◌, ◌<◌, ◌≤◌, cond, eqb, List, [], ◌∷◌, ◌++◌, length, get_or, drop, refl, ap, ◌∙◌, sym, arith}
 use Rattle.std.specs.List.{flat_map}
+use Rattle.std.proofs.lemmas.Fmt.{decimal_digit, decimal_step}
 use Rattle.std.proofs.lemmas.List.{at_drop_more, at_drop_all, append_assoc, append-nil}
 use Rattle.rr_types.specs.declared.command.Command.{Command}
 use Rattle.rr_types.specs.declared.binding.Binding.{Binding}
@@ -47,3 +48,14 @@ decided_end out total cs i j le so_far = sym (append-nil out) ∙ ap (λ (y : Li
 -- the count of decided commands, then the bound names
 pub registry_words : (out : List ℕ) (decided : ℕ) (bs : List Binding) → (out ++ 32 ∷ decimal decided) ++ flat_map (λ b. 32 ∷ binding_text b) bs ≡ out ++ 32 ∷ spaced (decimal decided ∷ map binding_text bs)
 registry_words out decided bs = append_assoc out (32 ∷ decimal decided) (flat_map (λ b. 32 ∷ binding_text b) bs) ∙ ap (λ (t : List ℕ). out ++ 32 ∷ t) (sym (spaced_words binding_text (decimal decided) bs))
+
+-- the end of a refusal's line, whose number has one digit or is 10 to 19
+pub one_digit : (n : ℕ) (name : List ℕ) → n < 10 → 32 ∷ (48 + n) ∷ 32 ∷ name ++ 10 ∷ [] ≡ 32 ∷ decimal n ++ 32 ∷ name ++ 10 ∷ []
+one_digit n name lt = rw (decimal_digit n lt) refl
+
+pub two_digits : (d : ℕ) (name : List ℕ) → d < 10 → 32 ∷ 49 ∷ (48 + d) ∷ 32 ∷ name ++ 10 ∷ [] ≡ 32 ∷ decimal (10 + d) ++ 32 ∷ name ++ 10 ∷ []
+two_digits d name lt =
+    let tens : (10 + d) / 10 ≡ 1 = omega arith in
+    let ones : (10 + d) % 10 ≡ d = omega arith in
+    let both : decimal (10 + d) ≡ 49 ∷ (48 + d) ∷ [] = decimal_step (10 + d) (omega arith) (omega arith) ∙ rw (tens, ones, decimal_digit 1 (omega arith)) refl in
+    rw both refl

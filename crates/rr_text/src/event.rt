@@ -60,7 +60,6 @@ pub enum Happening {
 
 impl Event {
     /// An event of a node.
-    #[inline(always)]
     pub fn at(node: NodeId, event: NodeEvent<u32>) -> Event
         ensures { result ≡ event_of node event }
     {
@@ -71,7 +70,6 @@ impl Event {
     }
 
     /// A node is told this.
-    #[inline(always)]
     pub fn told(node: NodeId, input: Input<u32>) -> Event
         ensures { result ≡ told_at node input }
     {
@@ -81,7 +79,6 @@ impl Event {
 
 impl Happening {
     /// Its kind.
-    #[inline]
     pub fn kind(&self) -> EventKind
         ensures { result ≡ kind_of self.now }
     {
@@ -94,7 +91,6 @@ impl Happening {
 }
 
 /// The kind of an event of a node.
-#[inline]
 fn kind_at_node(event: &NodeEvent<u32>) -> EventKind
     ensures { result ≡ kind_at_node event.now }
 {
@@ -111,7 +107,6 @@ fn kind_at_node(event: &NodeEvent<u32>) -> EventKind
 }
 
 /// The kind of what a node is told.
-#[inline]
 fn kind_of_input(input: &Input<u32>) -> EventKind
     ensures { result ≡ kind_of_input input.now }
 {

@@ -24,7 +24,6 @@ pub enum EventKind {
 
 impl EventKind {
     /// Its word in texts.
-    #[inline]
     pub fn word(self) -> &'static str
         ensures { result.now ≡ keyword_text self }
     {

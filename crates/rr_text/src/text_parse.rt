@@ -1,7 +1,8 @@
 //! Reading schedules.
 //!
-//! An event is large, and each call that passes it on copies it. So the short way that most lines take is inlined. What
-//! few lines need stands apart, so that the others don't clear room for it.
+//! An event is large, and each call that passes it on copies it. So the lines that most events have are matched whole, and
+//! any other line is read word by word. Which functions are inlined is left to the compiler: each hint that was tried cost
+//! instructions.
 
 ghost use Rattle.std.specs.Prelude.{◌≡◌, ℕ, ◌⊎◌, ◌+◌, ◌<◌, ◌≤◌, ◌++◌, ◌∷◌, [], None, Some, MatchOption, MatchResult, IfSome, IsSome, IfOk, IfErr, length};
 ghost use Rattle.std.specs.Option.{option_map};
@@ -9,7 +10,7 @@ ghost use Rattle.std.specs.List.{flat_map, AllByRecursion};
 ghost use Rattle.rr_text.specs.Scheduled.{Scheduled, IsEvent, IsSchedule};
 ghost use Rattle.rr_text.specs.Lines.{nodes_line, HasNoLine, ArePrinted, IsStop, IsFirstFault, IsFault};
 ghost use Rattle.rr_text.specs.ScheduleTexts.{event_line, schedule_text};
-ghost use Rattle.rr_text.specs.Events.{event_of};
+ghost use Rattle.rr_text.specs.Events.{event_of, told_at};
 ghost use Rattle.rr_text.specs.Reading.{keyword_text, pairs_at, fill_at, first_node_at, cuts_at, plain_at, fields_at, event_at, nodes_at, count_at};
 
 use crate::event::{Event, Fill, Happening};
@@ -68,7 +69,6 @@ pub fn first_node(nodes: Nodes, text: &[u8]) -> Option<(NodeId, &[u8])>
     }
 }
 
-#[inline(never)]
 fn submit(nodes: Nodes, text: &[u8]) -> Result<Option<Event>, AllocError>
     ensures ok { IfOk result (λ e. e ≡ fields_at nodes EventKind.Submit text.now) }
 {
@@ -81,7 +81,6 @@ fn submit(nodes: Nodes, text: &[u8]) -> Result<Option<Event>, AllocError>
     Ok(Some(Event::told(node, Input::Submit(command))))
 }
 
-#[inline(always)]
 fn hear(nodes: Nodes, text: &[u8]) -> Result<Option<Event>, AllocError>
     ensures ok { IfOk result (λ e. e ≡ fields_at nodes EventKind.Hear text.now) }
 {
@@ -94,7 +93,6 @@ fn hear(nodes: Nodes, text: &[u8]) -> Result<Option<Event>, AllocError>
     Ok(Some(Event::told(node, Input::Hear(message))))
 }
 
-#[inline(never)]
 fn suspect(nodes: Nodes, text: &[u8]) -> Result<Option<Event>, AllocError>
     ensures ok { IfOk result (λ e. e ≡ fields_at nodes EventKind.Suspect text.now) }
 {
@@ -107,41 +105,40 @@ fn suspect(nodes: Nodes, text: &[u8]) -> Result<Option<Event>, AllocError>
     Ok(Some(Event::told(node, Input::Suspect(set))))
 }
 
-// The event of this keyword at a node, where that is all that it says.
-#[inline(always)]
-fn plain(keyword: EventKind, node: NodeId) -> Option<Event>
-    ensures { result ≡ option_map (event_of node) (plain_at keyword) }
+// The event of this keyword at a node, where that is all that the line says.
+fn plain(keyword: EventKind, node: NodeId) -> Event
+    requires { IsSome (plain_at keyword) }
+    ensures { option_map (event_of node) (plain_at keyword) ≡ Some result }
 {
-    match keyword {
-        EventKind::Tick => Some(Event::told(node, Input::Tick)),
-        EventKind::Advance => Some(Event::told(node, Input::Advance)),
-        EventKind::Take => Some(Event::at(node, NodeEvent::Take)),
-        EventKind::Device => Some(Event::at(node, NodeEvent::Device)),
-        EventKind::Mark => Some(Event::at(node, NodeEvent::Mark)),
-        EventKind::Send => Some(Event::at(node, NodeEvent::Send)),
-        EventKind::Ack => Some(Event::at(node, NodeEvent::Acknowledge)),
-        EventKind::Snap => Some(Event::at(node, NodeEvent::Snap)),
-        EventKind::Restart => Some(Event::at(node, NodeEvent::Restart)),
+    let event = match keyword {
+        EventKind::Tick => NodeEvent::Told(Input::Tick),
+        EventKind::Advance => NodeEvent::Told(Input::Advance),
+        EventKind::Take => NodeEvent::Take,
+        EventKind::Device => NodeEvent::Device,
+        EventKind::Mark => NodeEvent::Mark,
+        EventKind::Send => NodeEvent::Send,
+        EventKind::Ack => NodeEvent::Acknowledge,
+        EventKind::Snap => NodeEvent::Snap,
+        EventKind::Restart => NodeEvent::Restart,
         EventKind::Submit
         | EventKind::Hear
         | EventKind::Suspect
         | EventKind::Fail
-        | EventKind::Crash => None,
-    }
+        | EventKind::Crash => unreachable!(),
+    };
+    Event::at(node, event)
 }
 
-#[inline(always)]
 fn at_node(nodes: Nodes, keyword: EventKind, text: &[u8]) -> Result<Option<Event>, AllocError>
     requires { IsSome (plain_at keyword) }
     ensures ok { IfOk result (λ e. e ≡ fields_at nodes keyword text.now) }
 {
     match node(nodes, text) {
-        Some(node) => Ok(plain(keyword, node)),
+        Some(node) => Ok(Some(plain(keyword, node))),
         None => Ok(None),
     }
 }
 
-#[inline(never)]
 fn fail(alloc: Global, nodes: Nodes, text: &[u8]) -> Result<Option<Event>, AllocError>
     ensures ok { IfOk result (λ e. e ≡ fields_at nodes EventKind.Fail text.now) }
 {
@@ -178,7 +175,6 @@ fn cuts(alloc: Global, text: &[u8]) -> Result<Option<(u32, u32, Fill)>, AllocErr
     }
 }
 
-#[inline(never)]
 fn crash(alloc: Global, nodes: Nodes, text: &[u8]) -> Result<Option<Event>, AllocError>
     ensures ok { IfOk result (λ e. e ≡ fields_at nodes EventKind.Crash text.now) }
 {
@@ -195,7 +191,6 @@ fn crash(alloc: Global, nodes: Nodes, text: &[u8]) -> Result<Option<Event>, Allo
 }
 
 /// The event of this keyword that the text behind it says; none where it says none.
-#[inline(always)]
 pub fn fields(
     alloc: Global,
     nodes: Nodes,
@@ -223,7 +218,6 @@ pub fn fields(
 }
 
 // What the first word of a line means, and the text behind it.
-#[inline(always)]
 fn first_keyword(text: &[u8]) -> Option<(EventKind, &[u8])>
     ensures { (n : ℕ) → MatchOption result (event_at n text.now ≡ None) (λ x. event_at n text.now ≡ fields_at n x.0 x.1.now) }
 {
@@ -291,7 +285,6 @@ pub fn first_line(bytes: &[u8]) -> Result<(Nodes, &[u8]), Refusal>
 ///
 /// # Errors
 /// `BadEvent` of the line where no event stands at the front of the bytes, or a million stand before it; `OutOfMemory`.
-#[inline(always)]
 pub fn next_event(
     alloc: Global,
     nodes: Nodes,
@@ -305,27 +298,50 @@ pub fn next_event(
         if let Some(next) = plain_event(nodes, bytes) {
             return Ok(Some(next));
         }
+        if let Some((node, message, rest)) = heard_line(nodes, bytes) {
+            return Ok(Some((Event::told(node, Input::Hear(message)), rest)));
+        }
     }
     any_event(alloc, nodes, bytes, line)
 }
 
 // The event of a line that is matched whole, and the bytes behind it; none for most other lines.
-#[inline(always)]
 fn plain_event(nodes: Nodes, bytes: &[u8]) -> Option<(Event, &[u8])>
     ensures { IfSome result (λ x. IsEvent nodes x.0 × (bytes.now ≡ event_line x.0 ++ x.1.now)) }
 {
     let _count = nodes.count();
     let (keyword, digit, rest) = plain_line(bytes)?;
     let node = NodeId::new(nodes, digit.checked_sub(b'0')?)?;
-    let event = plain(keyword, node)?;
-    Some((event, rest))
+    Some((plain(keyword, node), rest))
+}
+
+/// The node and the number of the message of a line on hearing one, and the bytes behind it; none for other lines. Only the
+/// number is searched for its end.
+pub fn heard_line(nodes: Nodes, bytes: &[u8]) -> Option<(NodeId, u32, &[u8])>
+    ensures { IfSome result (λ x. IsEvent nodes (told_at x.0 (Input.Hear x.1)) × (bytes.now ≡ event_line (told_at x.0 (Input.Hear x.1)) ++ x.2.now)) }
+{
+    let _count = nodes.count();
+    let (digit, words) = heard_parts(bytes)?;
+    let node = NodeId::new(nodes, digit.checked_sub(b'0')?)?;
+    let (word, rest) = cut(words, b'\n')?;
+    let message = small_number(word)?;
+    Some((node, message, rest))
+}
+
+// The byte in the node's place of a line on hearing a message, and the bytes behind it and a space.
+fn heard_parts(bytes: &[u8]) -> Option<(u8, &[u8])>
+    ensures { IfSome result (λ x. bytes.now ≡ keyword_text EventKind.Hear ++ 32 ∷ x.0 ∷ 32 ∷ x.1.now) }
+{
+    match bytes {
+        [b'h', b'e', b'a', b'r', b' ', digit, b' ', words @ ..] => Some((*digit, words)),
+        _ => None,
+    }
 }
 
 // The parts of a line that is a keyword and one more byte, and the bytes behind it, for the keywords that most lines have.
 // Such a line is matched whole, so that none of its bytes is searched for a space or a line feed.
-#[inline(always)]
 fn plain_line(bytes: &[u8]) -> Option<(EventKind, u8, &[u8])>
-    ensures { IfSome result (λ x. bytes.now ≡ keyword_text x.0 ++ 32 ∷ x.1 ∷ 10 ∷ x.2.now) }
+    ensures { IfSome result (λ x. IsSome (plain_at x.0) × (bytes.now ≡ keyword_text x.0 ++ 32 ∷ x.1 ∷ 10 ∷ x.2.now)) }
 {
     match bytes {
         [b'd', b'e', b'v', b' ', digit, b'\n', rest @ ..] => Some((
@@ -359,13 +375,47 @@ fn plain_line(bytes: &[u8]) -> Option<(EventKind, u8, &[u8])>
             *digit,
             rest,
         )),
+        _ => long_plain_line(bytes),
+    }
+}
+
+// The same for two keywords that are longer.
+fn long_plain_line(bytes: &[u8]) -> Option<(EventKind, u8, &[u8])>
+    ensures { IfSome result (λ x. IsSome (plain_at x.0) × (bytes.now ≡ keyword_text x.0 ++ 32 ∷ x.1 ∷ 10 ∷ x.2.now)) }
+{
+    match bytes {
+        [
+            b'a',
+            b'd',
+            b'v',
+            b'a',
+            b'n',
+            b'c',
+            b'e',
+            b' ',
+            digit,
+            b'\n',
+            rest @ ..,
+        ] => Some((EventKind::Advance, *digit, rest)),
+        [
+            b'r',
+            b'e',
+            b's',
+            b't',
+            b'a',
+            b'r',
+            b't',
+            b' ',
+            digit,
+            b'\n',
+            rest @ ..,
+        ] => Some((EventKind::Restart, *digit, rest)),
         _ => None,
     }
 }
 
 // The event of a line, whatever it is.
 #[tactic(auto, using(crate::proofs::ScheduleReading::event_uncut, crate::proofs::ScheduleReading::event_unread))]
-#[inline(never)]
 fn any_event(
     alloc: Global,
     nodes: Nodes,

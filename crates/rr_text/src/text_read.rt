@@ -4,7 +4,7 @@ ghost use Rattle.std.specs.Prelude.{true, [], ◌∷◌, unwrap_or, IfSome, ◌�
 ghost use Rattle.std.specs.List.{list_all, position};
 ghost use Rattle.std.specs.Str.Parse.{digits_value};
 ghost use Rattle.rr_text.specs.Numbers.{is_digit, is_number};
-ghost use Rattle.rr_text.specs.Reading.{find_by, keyword_text, cut_at, number_at, small_at, node_at, name_at, filled_value_at, members_at, set_at, hex_value, hex_byte, pairs_at, fill_at, submitted_at, first_node_at, cuts_at, fields_at, event_at, target_at, keyword_at, op_kind_at, message_kind_at, name_and_value, named_at, transferred_at, op_at};
+ghost use Rattle.rr_text.specs.Reading.{find_by, keyword_text, cut_at, number_at, small_at, node_at, name_at, filled_value_at, members_at, set_at, hex_value, hex_byte, pairs_at, fill_at, submitted_at, first_node_at, cuts_at, fields_at, event_at, target_at, keyword_at, op_kind_at, message_kind_at, op_at};
 
 use crate::kind::EventKind;
 use memchr::memchr;
@@ -92,6 +92,12 @@ fn digits_value(digits: &[u8]) -> Option<u64>
 pub fn number(word: &[u8]) -> Option<u64>
     ensures { result ≡ number_at word.now }
 {
+    if let [digit] = word {
+        return match digit {
+            b'0'..=b'9' => Some(u64::from(*digit - b'0')),
+            _ => None,
+        };
+    }
     if is_number(word) {
         digits_value(word)
     } else {
@@ -190,18 +196,19 @@ pub fn hex_byte(high: u8, low: u8) -> Option<u8>
     }
 }
 
-/// The kind of operations that a word stands for.
+/// The kind of operations that a word stands for. It is told by the first byte, and then compared with one word alone.
 pub fn op_kind(word: &[u8]) -> Option<OpKind>
     ensures { result ≡ op_kind_at word.now }
 {
-    if word == OpKind::Claim.word().as_bytes() {
-        Some(OpKind::Claim)
-    } else if word == OpKind::Update.word().as_bytes() {
-        Some(OpKind::Update)
-    } else if word == OpKind::Release.word().as_bytes() {
-        Some(OpKind::Release)
-    } else if word == OpKind::Transfer.word().as_bytes() {
-        Some(OpKind::Transfer)
+    let kind = match word {
+        [b'c', ..] => OpKind::Claim,
+        [b'u', ..] => OpKind::Update,
+        [b'r', ..] => OpKind::Release,
+        [b't', ..] => OpKind::Transfer,
+        _ => return None,
+    };
+    if word == kind.word().as_bytes() {
+        Some(kind)
     } else {
         None
     }
@@ -211,24 +218,20 @@ pub fn op_kind(word: &[u8]) -> Option<OpKind>
 pub fn message_kind(word: &[u8]) -> Option<MessageKind>
     ensures { result ≡ message_kind_at word.now }
 {
-    if word == MessageKind::Estimate.word().as_bytes() {
-        Some(MessageKind::Estimate)
-    } else if word == MessageKind::Proposal.word().as_bytes() {
-        Some(MessageKind::Proposal)
-    } else if word == MessageKind::Ack.word().as_bytes() {
-        Some(MessageKind::Ack)
-    } else if word == MessageKind::Decision.word().as_bytes() {
-        Some(MessageKind::Decision)
-    } else if word == MessageKind::Request.word().as_bytes() {
-        Some(MessageKind::Request)
-    } else if word == MessageKind::Nack.word().as_bytes() {
-        Some(MessageKind::Nack)
-    } else if word == MessageKind::Beat.word().as_bytes() {
-        Some(MessageKind::Beat)
-    } else if word == MessageKind::Suspects.word().as_bytes() {
-        Some(MessageKind::Suspects)
-    } else if word == MessageKind::Ask.word().as_bytes() {
-        Some(MessageKind::Ask)
+    let kind = match word {
+        [b'e', ..] => MessageKind::Estimate,
+        [b'p', ..] => MessageKind::Proposal,
+        [b'a', b'c', ..] => MessageKind::Ack,
+        [b'd', ..] => MessageKind::Decision,
+        [b'r', ..] => MessageKind::Request,
+        [b'n', ..] => MessageKind::Nack,
+        [b'b', ..] => MessageKind::Beat,
+        [b's', ..] => MessageKind::Suspects,
+        [b'a', ..] => MessageKind::Ask,
+        _ => return None,
+    };
+    if word == kind.word().as_bytes() {
+        Some(kind)
     } else {
         None
     }
@@ -240,56 +243,86 @@ fn empty_value() -> Option<Value>
     Value::new(&[]).ok()
 }
 
-fn with_value(name: Option<Name>, value: Option<Value>) -> Option<(Name, Value)>
-    ensures { result ≡ name_and_value name value }
+// A claim where `claims`, else an update. Names and values are large, and each value that may be none costs a copy of them.
+// So there is no pair of them that may be none, and the operation is made where both are there.
+fn binding_op(claims: bool, name: Name, value: Value) -> Op
+    ensures { result ≡ (if claims then Op.Claim name value else Op.Update name value) }
 {
-    match (name, value) {
-        (Some(name), Some(value)) => Some((name, value)),
-        _ => None,
+    if claims {
+        Op::Claim(name, value)
+    } else {
+        Op::Update(name, value)
     }
 }
 
-fn named(text: &[u8]) -> Option<(Name, Value)>
-    ensures { result ≡ named_at text.now }
+// The claim, or the update, of a text that is a name alone.
+fn bound_alone(claims: bool, text: &[u8]) -> Option<Op>
+    requires { cut_at 32 text.now ≡ None }
+    ensures { result ≡ target_at (if claims then OpKind.Claim else OpKind.Update) text.now }
 {
-    match cut(text, b' ') {
-        None => with_value(name(text), empty_value()),
-        Some((word, rest)) => with_value(name(word), filled_value(rest)),
-    }
+    let Some(name) = name(text) else {
+        return None;
+    };
+    let Some(value) = empty_value() else {
+        return None;
+    };
+    Some(binding_op(claims, name, value))
+}
+
+// The claim, or the update, that a text is.
+fn bound(claims: bool, text: &[u8]) -> Option<Op>
+    ensures { result ≡ target_at (if claims then OpKind.Claim else OpKind.Update) text.now }
+{
+    let Some((word, rest)) = cut(text, b' ') else {
+        return bound_alone(claims, text);
+    };
+    let Some(name) = name(word) else {
+        return None;
+    };
+    let Some(value) = filled_value(rest) else {
+        return None;
+    };
+    Some(binding_op(claims, name, value))
+}
+
+fn released(text: &[u8]) -> Option<Op>
+    ensures { result ≡ target_at OpKind.Release text.now }
+{
+    let Some(name) = name(text) else {
+        return None;
+    };
+    Some(Op::Release(name))
 }
 
 fn transferred(text: &[u8]) -> Option<Op>
-    ensures { result ≡ transferred_at text.now }
+    ensures { result ≡ target_at OpKind.Transfer text.now }
 {
-    let (word, rest) = cut(text, b' ')?;
-    let name = name(word)?;
-    let owner = small_number(rest)?;
+    let Some((word, rest)) = cut(text, b' ') else {
+        return None;
+    };
+    let Some(name) = name(word) else {
+        return None;
+    };
+    let Some(owner) = small_number(rest) else {
+        return None;
+    };
     Some(Op::Transfer(name, owner))
-}
-
-fn target(kind: OpKind, text: &[u8]) -> Option<Op>
-    ensures { result ≡ target_at kind text.now }
-{
-    match kind {
-        OpKind::Claim => {
-            let (name, value) = named(text)?;
-            Some(Op::Claim(name, value))
-        }
-        OpKind::Update => {
-            let (name, value) = named(text)?;
-            Some(Op::Update(name, value))
-        }
-        OpKind::Release => Some(Op::Release(name(text)?)),
-        OpKind::Transfer => transferred(text),
-    }
 }
 
 /// The operation that a text is.
 pub fn op(text: &[u8]) -> Option<Op>
     ensures { result ≡ op_at text.now }
 {
-    let (word, rest) = cut(text, b' ')?;
-    target(op_kind(word)?, rest)
+    let Some((word, rest)) = cut(text, b' ') else {
+        return None;
+    };
+    match op_kind(word) {
+        Some(OpKind::Claim) => bound(true, rest),
+        Some(OpKind::Update) => bound(false, rest),
+        Some(OpKind::Release) => released(rest),
+        Some(OpKind::Transfer) => transferred(rest),
+        None => None,
+    }
 }
 
 /// The command that the words of a submit behind the node are.

@@ -3,6 +3,7 @@
 ghost use Rattle.std.specs.Prelude.{◌≡◌, ◌+◌, ◌<◌, ◌^◌, [], ◌∷◌, ◌++◌, map, length, OnOk, IfOk, codes, decimal};
 ghost use Rattle.std.specs.List.{flat_map};
 ghost use Rattle.rr_types.specs.Messages.{message_word};
+ghost use Rattle.rr_types.specs.Refusal.{number_of, name_of};
 ghost use Rattle.rr_text.specs.Words.{spaced, op_words};
 ghost use Rattle.rr_text.specs.ReportTexts.{request_text, command_words, body_words, message_words, reply_words, binding_text, report_words, line, decided_lines, report_text};
 
@@ -33,7 +34,6 @@ fn push_command(out: &mut Vec<u8>, command: &Command) -> Result<(), AllocError>
 }
 
 // Appends a space and the word of a kind of messages.
-#[inline]
 fn push_kind(out: &mut Vec<u8>, kind: MessageKind) -> Result<(), AllocError>
     ensures ok { OnOk result (out.new.items ≡ out.old.items ++ 32 ∷ message_word kind) }
 {
@@ -97,7 +97,6 @@ fn push_node(out: &mut Vec<u8>, node: NodeId) -> Result<(), AllocError>
     push_number_word(out, u64::from(node.index()))
 }
 
-#[inline(never)]
 fn push_message(out: &mut Vec<u8>, message: &Message) -> Result<(), AllocError>
     ensures ok { OnOk result (out.new.items ≡ out.old.items ++ 32 ∷ spaced (message_words message.now)) }
 {
@@ -106,7 +105,6 @@ fn push_message(out: &mut Vec<u8>, message: &Message) -> Result<(), AllocError>
     push_body(out, &message.body)
 }
 
-#[inline(never)]
 fn push_reply(out: &mut Vec<u8>, reply: Reply) -> Result<(), AllocError>
     ensures ok { OnOk result (out.new.items ≡ out.old.items ++ 32 ∷ spaced (reply_words reply)) }
 {
@@ -145,7 +143,6 @@ fn push_bindings(out: &mut Vec<u8>, bindings: &[Binding]) -> Result<(), AllocErr
 }
 
 #[tactic(auto, using(crate::proofs::WordLemmas::registry_words))]
-#[inline(never)]
 fn push_registry(out: &mut Vec<u8>, decided: u64, bindings: &[Binding]) -> Result<(), AllocError>
     ensures ok { OnOk result (out.new.items ≡ out.old.items ++ 32 ∷ spaced (decimal decided ∷ map binding_text bindings.now)) }
 {
@@ -193,11 +190,51 @@ pub fn push_report_words(out: &mut Vec<u8>, report_line: &ReportLine) -> Result<
     }
 }
 
+// What the line of a refusal has behind its number: the same for each line, so that it is one text.
+fn refusal_end(refusal: &Refusal) -> &'static [u8]
+    ensures { result.now ≡ 32 ∷ decimal (number_of refusal.now) ++ 32 ∷ name_of refusal.now ++ 10 ∷ [] }
+{
+    match refusal {
+        Refusal::OutOfMemory => b" 1 OutOfMemory\n",
+        Refusal::Device => b" 2 Device\n",
+        Refusal::Damaged { .. } => b" 3 Damaged\n",
+        Refusal::Failed => b" 4 Failed\n",
+        Refusal::Down => b" 5 Down\n",
+        Refusal::BadNodes => b" 6 BadNodes\n",
+        Refusal::BadName => b" 7 BadName\n",
+        Refusal::BadValue => b" 8 BadValue\n",
+        Refusal::ListFull => b" 9 ListFull\n",
+        Refusal::RoundsOut => b" 10 RoundsOut\n",
+        Refusal::Malformed(_) => b" 11 Malformed\n",
+        Refusal::StrangeMark => b" 12 StrangeMark\n",
+        Refusal::Busy => b" 13 Busy\n",
+        Refusal::BadEvent(_) => b" 14 BadEvent\n",
+        Refusal::SeatsTaken => b" 15 SeatsTaken\n",
+        Refusal::TooLarge => b" 16 TooLarge\n",
+        Refusal::AuditNo(_) => b" 17 AuditNo\n",
+        Refusal::NoGuard => b" 18 NoGuard\n",
+    }
+}
+
+// Most lines of a report may be refusals: theirs are printed in three pieces.
+fn push_refusal_line(out: &mut Vec<u8>, number: u64, refusal: &Refusal) -> Result<(), AllocError>
+    ensures ok { OnOk result (out.new.items ≡ out.old.items ++ line (codes "refuse" ∷ decimal number ∷ decimal (number_of refusal.now) ∷ name_of refusal.now ∷ [])) }
+{
+    push_bytes(out, b"refuse ")?;
+    push_number(out, number)?;
+    push_bytes(out, refusal_end(refusal))
+}
+
 fn push_report_line(out: &mut Vec<u8>, report_line: &ReportLine) -> Result<(), AllocError>
     ensures ok { OnOk result (out.new.items ≡ out.old.items ++ line (report_words report_line.now)) }
 {
-    push_report_words(out, report_line)?;
-    push_byte(out, b'\n')
+    match report_line {
+        ReportLine::Refuse { line, refusal } => push_refusal_line(out, *line, refusal),
+        _ => {
+            push_report_words(out, report_line)?;
+            push_byte(out, b'\n')
+        }
+    }
 }
 
 /// Appends the lines of a report.

@@ -5,14 +5,12 @@ ghost use Rattle.rr_types.specs.Registry.{reply_of};
 ghost use Rattle.rr_types.specs.declared.input.Input.TheVariants as told;
 ghost use Rattle.rr_types.specs.declared.refusal.Refusal.TheVariants.{RoundsOut};
 ghost use Rattle.rr_model.specs.NodeState.{decided_prefix};
-ghost use Rattle.rr_model.specs.NodeStep.{node_step, refusal_of, next_leaving, message_left, group_taken, running_group, marked_running, next_acknowledged, acknowledged};
+ghost use Rattle.rr_model.specs.NodeStep.{node_step, refusal_of, group_taken, running_group, marked_running, next_acknowledged, acknowledged};
 ghost use Rattle.rr_types.specs.Inputs.{HearsNothing};
 ghost use Rattle.rr_threads.specs.Lacking.{may_lack};
 
 use rr_journal::Synced;
-use rr_locked::{
-    Locked, Recording, Sent, ack_on, hear_on, input_on, mark_on, send, send_on, take_on,
-};
+use rr_locked::{Locked, Recording, Sent, ack_on, hear_on, input_on, mark_on, take_on};
 use rr_tape::Tape;
 use rr_types::{Group, Input, Message, Nodes, Refusal, Reply, RequestNo};
 use std::alloc::Global;
@@ -49,7 +47,7 @@ impl Recorder {
 #[derive(Drop)]
 pub struct Scribe<'x, R> {
     rt: &'x R,
-    recorder: Option<&'x Recorder>,
+    pub(crate) recorder: Option<&'x Recorder>,
 }
 
 impl<'x, R> Scribe<'x, R> {
@@ -120,17 +118,6 @@ impl<'x, R: Wait> Scribe<'x, R> {
         match self.recorder {
             None => locked.take_group(),
             Some(recorder) => take_on(locked, &mut recorder.recording().lock(self.rt)),
-        }
-    }
-
-    /// The oldest message that may leave does.
-    pub fn send(&self, locked: &mut Locked) -> Result<Option<Sent>, Refusal>
-        ensures none { IfOk result (λ s. IfNone s ((next_leaving locked.old ≡ None) × (locked.new ≡ locked.old))) }
-        ensures some { IfOk result (λ s. IfSome s (λ sent. (next_leaving locked.old ≡ Some sent.message) × (locked.new ≡ message_left locked.old))) }
-    {
-        match self.recorder {
-            None => Ok(send(locked)),
-            Some(recorder) => send_on(locked, &mut recorder.recording().lock(self.rt)),
         }
     }
 

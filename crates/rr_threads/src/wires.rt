@@ -13,7 +13,7 @@ use crate::rest::Rest;
 use crate::running::Running;
 use rr_inbox::{Giver, Outlet, Port, ROOM, Taker, TrySendError};
 use rr_journal::Synced;
-use rr_locked::{Kept, Locked, Place, Sent, Turnstile, Unflushed};
+use rr_locked::{Kept, Locked, Place, Sent, Turnstile, Unflushed, send, send_on};
 use rr_turn::{Bell, FlusherRung, Links, PublisherRung, Rung};
 use rr_types::{Command, Group, Input, Message, NodeId, Refusal};
 use rr_window::WindowName;
@@ -40,11 +40,22 @@ impl Way {
     }
 
     /// Puts a message. It is lost where there is no room for it, or late if it is one of the last that tell where its sender is.
+    #[inline(always)]
     fn put<R: Wait>(&mut self, rt: &R, sent: Sent)
         ensures { IsPut self.old sent self.new }
     {
-        if let Err(refused) = self.port.put(rt, sent) {
-            self.late.keep(refused);
+        if let Err(back) = self.port.try_put(sent) {
+            self.put_anew(rt, &back);
+        }
+    }
+
+    // As `put`, where one attempt failed.
+    #[inline(never)]
+    fn put_anew<R: Wait>(&mut self, rt: &R, sent: &Sent)
+        ensures { IsPut self.old sent.now self.new }
+    {
+        if let Err(refused) = self.port.put(rt, *sent) {
+            self.late.note(&refused);
         }
     }
 
@@ -58,6 +69,7 @@ impl Way {
     }
 
     /// Puts what is late, which stays so where there is no room still.
+    #[inline(never)]
     fn put_late<R: Wait>(&mut self, rt: &R)
         ensures { IsPutLate self.old self.new }
     {
@@ -78,11 +90,12 @@ pub struct Mail {
 
 impl Mail {
     /// Takes the oldest message of the inbox, and keeps it if it is one of the last that tell where its sender is.
+    #[inline(never)]
     pub fn take<R: Wait>(&mut self, rt: &R) -> Option<Sent>
         ensures { IsTaken self.old result self.new }
     {
         let sent = self.inbox.take(rt)?;
-        self.kept.keep(sent);
+        self.kept.note(&sent);
         Some(sent)
     }
 
@@ -96,6 +109,7 @@ impl Mail {
     }
 
     /// Puts a message into the inbox of a node, as its way does.
+    #[inline(always)]
     pub fn put<R: Wait>(&mut self, rt: &R, to: NodeId, sent: Sent)
         ensures { IsPutTo to sent self.old self.new }
     {
@@ -190,7 +204,10 @@ impl<'x, W: WindowName, T: Turnstile, R: Wait + Clock> Links for Wires<'x, W, T,
     }
 
     fn send(&mut self, locked: &mut Locked) -> Result<Option<Sent>, Refusal> {
-        self.scribe.send(locked)
+        let Some(recorder) = self.scribe.recorder else {
+            return Ok(send(locked));
+        };
+        send_on(locked, &mut recorder.recording().lock(self.rt))
     }
 
     fn put(&mut self, to: NodeId, sent: Sent) {
@@ -210,8 +227,17 @@ impl<'x, W: WindowName, T: Turnstile, R: Wait + Clock> Links for Wires<'x, W, T,
         self.ends.mail.inbox.is_empty()
     }
 
+    // As `Mail::take`, which is called where one attempt isn't enough: a message is large, and each call that hands it on copies it.
     fn take(&mut self) -> Option<Sent> {
-        self.ends.mail.take(self.rt)
+        let mail = &mut self.ends.mail;
+        if mail.inbox.is_empty() {
+            return None;
+        }
+        let Some(sent) = mail.inbox.try_take() else {
+            return mail.take(self.rt);
+        };
+        mail.kept.note(&sent);
+        Some(sent)
     }
 
     fn back(&mut self) -> Option<Result<Synced, Unflushed>> {

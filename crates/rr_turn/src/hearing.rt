@@ -22,6 +22,24 @@ fn meet<L: Links>(
     ensures state { OnOk result (locked.new ≡ met sent.now locked.old chase.old) }
     ensures chase { chase.new ≡ met_chase sent.now locked.old chase.old }
 {
+    if chase.is_plain(locked.core().decided_count() as u64, sent) {
+        return links.hear(locked, sent);
+    }
+    meet_chased(locked, chase, links, sent)
+}
+
+// As `meet`, where the chase may have more to say.
+#[inline(never)]
+fn meet_chased<L: Links>(
+    locked: &mut Locked,
+    chase: &mut Chase,
+    links: &mut L,
+    sent: &Sent,
+) -> Result<(), Refusal>
+    ensures calls { OnOk result (Ran L.gives (meeting sent.now locked.old chase.old) links.old links.new) }
+    ensures state { OnOk result (locked.new ≡ met sent.now locked.old chase.old) }
+    ensures chase { chase.new ≡ met_chase sent.now locked.old chase.old }
+{
     match chase.meet(locked.core().decided_count() as u64, sent) {
         Hearing::Alone => links.hear(locked, sent),
         Hearing::Nothing => Ok(()),

@@ -57,12 +57,13 @@ fn put_all<L: Links>(
     let mut has_any = false;
     let mut woken = NodeSet::empty();
     for turn in 0..most {
-        match links.send(locked)? {
-            None => break,
-            Some(sent) => {
+        match links.send(locked) {
+            Ok(Some(sent)) => {
                 woken = put(chase, links, woken, sent);
                 has_any = true;
             }
+            Ok(None) => break,
+            Err(refusal) => return Err(refusal),
         }
     }
     Ok(Receivers { has_any, woken })

@@ -1,5 +1,5 @@
 -- Messages kept as their bytes: their spellings one behind another, and where each ends.
-use Rattle.std.specs.Prelude.{ℕ, ◌==◌, nat_le, Bool, ◌&&◌, List, [], ◌∷◌, ◌++◌, length, slice_range, Result, Ok, Err, is_ok}
+use Rattle.std.specs.Prelude.{◌≡◌, ℕ, ◌==◌, nat_le, Bool, ◌&&◌, List, [], ◌∷◌, ◌++◌, length, slice_range, Result, Ok, Err, is_ok}
 use Rattle.rr_types.specs.declared.message.Message.{Message}
 use Rattle.rr_wire.specs.MessageFormat.{message_in}
 
@@ -18,3 +18,7 @@ unfoldable pub are_spellings : List ℕ → ℕ → List ℕ → Bool
 are_spellings bytes from [] = from == length bytes
 are_spellings bytes from (end ∷ ends) =
     nat_le from end && nat_le end (length bytes) && is_ok (message_in 7 (slice_range bytes from end)) && are_spellings bytes end ends
+
+-- the messages stand at the end of all of these
+abbrev pub IsEndOf : List Message → List Message → Type 0
+IsEndOf newest all = (older : List Message) × (all ≡ older ++ newest)

@@ -24,6 +24,7 @@
 mod decoding;
 mod encoding;
 mod log;
+mod spellings;
 
 pub use decoding::decode;
 pub use encoding::encode;

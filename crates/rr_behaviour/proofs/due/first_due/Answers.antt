@@ -19,7 +19,7 @@ loop-instance-preserved c =
         spent = λ t. inv.spent (subst IsTrue w.is_pool_spent-is t);
       }
       | in-None+then-not-is_pool_spent+in_default-first_free w ↦
-          let all : IsSpent s = spent s is i c.requires (sym w.in_default-first_free.is ∙ w.first_free.ensures) w.in-None.ensures in
+          let all : IsSpent s = spent s is i c.requires (sym (ap (option_map (λ v. v.now)) w.in_default-first_free.is) ∙ w.first_free.ensures) w.in-None.ensures in
           record { left = more (due_unnamed s i w.in-None.ensures (all i w.in-None.ensures)); spent = λ t. all }
       | in-None+else-not-is_pool_spent w ↦
           let t : c.loop-instance.is_pool_spent ≡ true = grind (arith, w.if-not-is_pool_spent.false) in
@@ -28,11 +28,11 @@ loop-instance-preserved c =
 
 pub returns-in-Some-first_free-clause-value : goal.returns-in-Some-first_free-clause-value
 returns-in-Some-first_free-clause-value c =
-    let begin = due_begins c.args.step.now.state c.args.instances.now c.instance-item.result _ c.requires c.in-None.ensures (sym c.in-Some-first_free.is ∙ c.first_free.ensures) in
+    let begin = due_begins c.args.step.now.state c.args.instances.now c.instance-item.result _ c.requires c.in-None.ensures (sym (ap (option_map (λ v. v.now)) c.in-Some-first_free.is) ∙ c.first_free.ensures) in
     sym (first_due_here c.args.step.now.state c.args.instances.now c.loop-instance.instance-index c.instance-item.result (Begin c.instance-item.result) c.loop-instance-test.true c.instance-item.is begin) ∙ c.loop-instance.invariant.left
 
 pub returns-in-Some-first_free-clause-ready : goal.returns-in-Some-first_free-clause-ready
 returns-in-Some-first_free-clause-ready c = (
   ap (λ (x : Option Row). option_map (λ (r : Row). r.standing) x) c.in-None.ensures,
-  free_found c.args.step.now.state c.args.instances.now c.instance-item.result _ c.requires (sym c.in-Some-first_free.is ∙ c.first_free.ensures),
+  free_found c.args.step.now.state c.args.instances.now c.instance-item.result _ c.requires (sym (ap (option_map (λ v. v.now)) c.in-Some-first_free.is) ∙ c.first_free.ensures),
 )

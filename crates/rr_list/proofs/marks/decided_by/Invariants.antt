@@ -1,4 +1,4 @@
-use Rattle.std.proofs.Common.{◌≡◌, ◌<◌, None, drop, IfSome}
+use Rattle.std.proofs.Common.{◌≡◌, ◌<◌, None, drop, option_map, IfSome}
 use Rattle.rr_list.specs.Marked.{decided_by}
 use Rattle.rr_list.proofs.marks.decided_by.Given as goal
 
@@ -6,6 +6,6 @@ use Rattle.rr_list.proofs.marks.decided_by.Given as goal
 abbrev pub invariant-loop-fact : goal.invariant-loop-fact
 invariant-loop-fact l =
     record {
-      left : decided_by l.decided l.number (drop l.fact-index l.facts) ≡ decided_by None l.number l.facts;
+      left : decided_by (option_map (λ v. v.now) l.decided) l.number (drop l.fact-index l.facts) ≡ decided_by None l.number l.facts;
       range : IfSome l.decided (λ v. l.number < 1048576);
     }

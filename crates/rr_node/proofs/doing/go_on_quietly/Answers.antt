@@ -1,9 +1,8 @@
-use Rattle.std.proofs.Common.{◌≡◌, ◌≢◌, true, refl, Ok, Err}
+use Rattle.std.proofs.Common.{◌≡◌, ◌≢◌, true, refl}
 use Rattle.rr_node.specs.declared.doing.Doing.TheVariants as does
 use Rattle.rr_types.specs.declared.event.NodeEvent.{NodeEvent}
 use Rattle.rr_types.specs.declared.message.Message.{Message}
 use Rattle.rr_types.specs.declared.event.NodeEvent.TheVariants as at
-use Rattle.rr_node.specs.declared.event.Outcome.TheVariants.{Quiet}
 use Rattle.rr_node.specs.Stances.{gives_nothing}
 use Rattle.rr_node.specs.Views.{quiet}
 use Rattle.rr_node.proofs.CallLaws.{carried}
@@ -25,15 +24,10 @@ take_in-requires c =
     let other = c.in_default-event in
     record { own = c.requires c.in-Serving.serving c.in-Serving.is; gives = others c.args.event.now other.not-Send other.not-Acknowledge; other = other.not-Device }
 
-pub returns-in-Ok-clause-carries : goal.returns-in-Ok-clause-carries
-returns-in-Ok-clause-carries c n p =
-    let next = does.Serving c.flush_on.new.self in
-    carried n p c.args.event.now at.Device c.args.doing.now (does.Serving c.in-Serving.serving) next next (Ok Quiet) c.in-Device.is c.in-Serving.is refl (c.in-Ok.ensures.ok n p)
-
-pub returns-in-Err-clause-carries : goal.returns-in-Err-clause-carries
-returns-in-Err-clause-carries c n p =
-    let left = c.flush_on.new.self in
-    carried n p c.args.event.now at.Device c.args.doing.now (does.Serving c.in-Serving.serving) c.fall.new.doing (does.Faulted left.slots.disk) (Err c.in-Err.refusal) c.in-Device.is c.in-Serving.is (c.fall.ensures left refl) (c.in-Err.ensures.err n p)
+pub returns-in-Device-clause-carries : goal.returns-in-Device-clause-carries
+returns-in-Device-clause-carries c n p =
+    let next = c.device_on.new.doing in
+    carried n p c.args.event.now at.Device c.args.doing.now (does.Serving c.in-Serving.serving) next next (quiet c.device_on.result) c.in-Device.is c.in-Serving.is refl (c.device_on.ensures n p)
 
 pub returns-in_default-event-clause-carries : goal.returns-in_default-event-clause-carries
 returns-in_default-event-clause-carries c n p =

@@ -9,27 +9,30 @@ loop-event-init g c =
       unprinted = refl;
     }
 
-pub loop-event-preserved-in_ok-tell : goal.loop-event-preserved-in_ok-tell
-loop-event-preserved-in_ok-tell g c =
-    record {
-      told = told_more c.args.nodes c.args.bytes.now c.args.cluster.now c.args.text.now.items c.loop-event.line _ c.loop-event.rest.now c.in-Some.behind.now c.loop-event.cluster c.step.new.self c.tell.new.self c.loop-event.text.items c.tell.new.text.items c.in-Some.event
-          c.loop-event.invariant.told (search rules) c.in_ok-step.ensures.ok c.in_ok-step.ensures.spelt c.in_ok-tell.ensures.kept c.in_ok-tell.ensures.told refl;
-      unprinted = c.tell_read.ensures ∙ c.loop-event.invariant.unprinted;
-    }
-
-pub loop-event-preserved-in_ok-tell-2 : goal.loop-event-preserved-in_ok-tell-2
-loop-event-preserved-in_ok-tell-2 g c =
-    record {
-      told = told_more c.args.nodes c.args.bytes.now c.args.cluster.now c.args.text.now.items c.loop-event.line _ c.loop-event.rest.now c.in-Some.behind.now c.loop-event.cluster c.step.new.self c.tell.new.self c.loop-event.text.items c.tell.new.text.items c.in-Some.event
-          c.loop-event.invariant.told (search rules) c.in_ok-step.ensures.ok c.in_ok-step.ensures.spelt c.in_ok-tell.ensures.kept c.in_ok-tell.ensures.told refl;
-      unprinted = c.tell_read.ensures ∙ c.loop-event.invariant.unprinted;
-    }
-
 pub loop-event-preserved : goal.loop-event-preserved
 loop-event-preserved g c =
+    let one = c.in_ok-step_told.ensures.ok in
     record {
-      told = told_more c.args.nodes c.args.bytes.now c.args.cluster.now c.args.text.now.items c.loop-event.line _ c.loop-event.rest.now c.in-Some.behind.now c.loop-event.cluster c.step.new.self c.tell.new.self c.loop-event.text.items c.tell.new.text.items c.in-Some.event
-          c.loop-event.invariant.told (search rules) c.in_ok-step.ensures.ok c.in_ok-step.ensures.spelt c.in_ok-tell.ensures.kept c.in_ok-tell.ensures.told refl;
+      told = told_more c.args.nodes c.args.bytes.now c.args.cluster.now c.args.text.now.items c.loop-event.line _ c.loop-event.rest.now c.in-Some.behind.now c.loop-event.cluster one.0 c.step_told.new.self c.loop-event.text.items c.step_told.new.text.items c.in-Some.event
+          c.loop-event.invariant.told (search rules) one.1 one.2 one.3 one.4 refl;
+      unprinted = c.tell_read.ensures ∙ c.loop-event.invariant.unprinted;
+    }
+
+pub loop-event-preserved-in_ok-step_told : goal.loop-event-preserved-in_ok-step_told
+loop-event-preserved-in_ok-step_told g c =
+    let one = c.in_ok-step_told.ensures.ok in
+    record {
+      told = told_more c.args.nodes c.args.bytes.now c.args.cluster.now c.args.text.now.items c.loop-event.line _ c.loop-event.rest.now c.in-Some.behind.now c.loop-event.cluster one.0 c.step_told.new.self c.loop-event.text.items c.step_told.new.text.items c.in-Some.event
+          c.loop-event.invariant.told (search rules) one.1 one.2 one.3 one.4 refl;
+      unprinted = c.tell_read.ensures ∙ c.loop-event.invariant.unprinted;
+    }
+
+pub loop-event-preserved-in_ok-step_told-2 : goal.loop-event-preserved-in_ok-step_told-2
+loop-event-preserved-in_ok-step_told-2 g c =
+    let one = c.in_ok-step_told.ensures.ok in
+    record {
+      told = told_more c.args.nodes c.args.bytes.now c.args.cluster.now c.args.text.now.items c.loop-event.line _ c.loop-event.rest.now c.in-Some.behind.now c.loop-event.cluster one.0 c.step_told.new.self c.loop-event.text.items c.step_told.new.text.items c.in-Some.event
+          c.loop-event.invariant.told (search rules) one.1 one.2 one.3 one.4 refl;
       unprinted = c.tell_read.ensures ∙ c.loop-event.invariant.unprinted;
     }
 

@@ -1,7 +1,4 @@
-use Rattle.std.proofs.Common.{◌≡◌, ◌+◌, ◌<◌, Some, refl, sym, arith}
-use Rattle.std.specs.Option.{option_map}
-use Rattle.rr_text.specs.Events.{event_of}
-use Rattle.rr_text.specs.Reading.{plain_at}
+use Rattle.std.proofs.Common.{◌≡◌, ◌+◌, ◌<◌, refl, arith}
 use Rattle.rr_text.proofs.ScheduleReading.{plain_taken}
 use Rattle.rr_text.proofs.text_parse.plain_event.Goals as goal
 
@@ -12,5 +9,4 @@ returns c =
     let less = c.in_ok-checked_sub.ensures in
     let low : c.in_ok-node.node < c.args.nodes = omega (arith, valid.0 refl, value) in
     let digit : c.in_ok-keyword.digit ≡ 48 + c.in_ok-node.node = omega (arith, less.0, less.1, value) in
-    let event : option_map (event_of c.in_ok-node.node) (plain_at c.in_ok-keyword.keyword) ≡ Some c.in_ok-event.event = sym c.in_ok-event.ensures in
-    plain_taken c.args.nodes c.in_ok-keyword.keyword c.in_ok-node.node c.in_ok-keyword.digit c.in_ok-event.event c.args.bytes.now c.in_ok-keyword.rest.now (omega arith) low digit event c.in_ok-keyword.ensures
+    plain_taken c.args.nodes c.in_ok-keyword.keyword c.in_ok-node.node c.in_ok-keyword.digit c.plain.result c.args.bytes.now c.in_ok-keyword.rest.now (omega arith) low digit c.plain.ensures c.in_ok-keyword.ensures.1

@@ -23,7 +23,7 @@ loop-place-preserved c =
     record {
       left =
           ap (λ x. x ++ run_from after (c.loop-place.place + 1)) c.in_ok-push-in-Some.ensures.items
-          ∙ found_more after c.loop-place.found.items c.loop-place.place c.in-Some.command more c.in-Some.ensures.value ∙ c.loop-place.invariant.left;
+          ∙ found_more after c.loop-place.found.items c.loop-place.place c.in-Some.command.now more c.in-Some.ensures.value ∙ c.loop-place.invariant.left;
       small = omega (arith, c.loop-place-test.true);
     }
 

@@ -1,4 +1,4 @@
-use Rattle.std.proofs.Common.{ap, sym, ◌∙◌, arith, is_some, length}
+use Rattle.std.proofs.Common.{ap, option_map, sym, ◌∙◌, arith, is_some, length}
 use Rattle.rr_types.specs.Promises.{standing_in, take_on_all, decided_from}
 use Rattle.rr_list.specs.Marked.{marked_in}
 use Rattle.rr_list.proofs.PrefixLemmas.{ascending, rounds_behind, places_behind, taken_behind, skipped}
@@ -29,7 +29,7 @@ returns-else-is_longer-clause-counted c =
     let value = taken_behind c.args.rows.now c.args.self.now c.take_on_all.new.self c.args.facts.now c.requires.marks c.take_on_all.ensures.moved c.take_on_all.ensures.value ∙ skipped c.args.rows.now c.args.self.now c.args.facts.now c.requires.marks c.requires.counted c.requires.keeps in
     let none =
     decided_after es c.args.facts.now p (prefix_open es p ascends count)
-    ∙ sym c.decided_by.ensures.value ∙ undecided_none c.decided_by.result c.is_some-is_longer.result c.is_some-is_longer.ensures c.if-is_longer.false in
+    ∙ sym c.decided_by.ensures.value ∙ ap (option_map (λ v. v.now)) (undecided_none c.decided_by.result c.is_some-is_longer.result c.is_some-is_longer.ensures c.if-is_longer.false) in
     let is =
     prefix_is after p (ascend_all es c.args.facts.now ascends)
     (λ i l. prefix_stays es after i ascends c.requires.keeps (omega (arith, count, l))) none in

@@ -16,7 +16,7 @@ returns-in-Ok c =
     let some = ap is_some c.in-Ok-Some.field-0-is in
     let runs = sym c.in-Ok-Some.field-0-is ∙ (took.some some).1 in
     let gave = c.in-Ok.ensures.ok in
-    rw c.runs.ensures
+    rw c.runs_next.ensures
     (subst (λ (f : Flush). CarriesOn at.Take (record { core = s.core; slots = s.slots; flush = f }) (Ok Quiet) (does.Serving (record { core = c.take_group.new.self; slots = c.begin.new.self; flush = Body c.in-Ok.job }))) (sym c.requires)
     (begin_done s.core c.take_group.new.self s.slots c.begin.new.self c.in-Ok-Some.group c.in-Ok.job (took.there some) (took.some some).0 runs took.free c.in-Ok.ensures.lawful gave.2 gave.3 gave.4))
 

@@ -10,7 +10,7 @@ use Rattle.rr_node.proofs.serving.Serving.flush_on.Goals as goal
 pub returns-clause-ok : goal.returns-clause-ok
 returns-clause-ok c =
     let s = c.args.self.now in
-    rw c.runs.ensures
+    rw c.runs_next.ensures
     (subst (λ (f : Flush). CarriesOn at.Device (record { core = s.core; slots = s.slots; flush = f }) (Ok Quiet) (does.Serving (record { core = s.core; slots = c.step_on.new.slots; flush = c.in_ok-next.next }))) c.replace-flush.ensures.value (c.in_ok-next.ensures.steps s.core))
 
 pub returns-in_err-next-clause-err : goal.returns-in_err-next-clause-err
