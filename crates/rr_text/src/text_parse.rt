@@ -4,12 +4,12 @@
 //! any other line is read word by word. Which functions are inlined is left to the compiler: each hint that was tried cost
 //! instructions.
 
-ghost use Rattle.std.specs.Prelude.{◌≡◌, ℕ, ◌⊎◌, ◌+◌, ◌<◌, ◌≤◌, ◌++◌, ◌∷◌, [], None, Some, MatchOption, MatchResult, IfSome, IsSome, IfOk, IfErr, length};
+ghost use Rattle.std.specs.Prelude.{◌≡◌, ℕ, ◌⊎◌, ◌+◌, ◌<◌, ◌≤◌, ◌++◌, ◌∷◌, [], None, Some, MatchOption, MatchResult, IfSome, IsSome, IfOk, IfErr, List, length};
 ghost use Rattle.std.specs.Option.{option_map};
 ghost use Rattle.std.specs.List.{flat_map, AllByRecursion};
 ghost use Rattle.rr_text.specs.Scheduled.{Scheduled, IsEvent, IsSchedule};
 ghost use Rattle.rr_text.specs.Lines.{nodes_line, HasNoLine, ArePrinted, IsStop, IsFirstFault, IsFault};
-ghost use Rattle.rr_text.specs.ScheduleTexts.{event_line, schedule_text};
+ghost use Rattle.rr_text.specs.ScheduleTexts.{event_line, HearsNothing, schedule_text};
 ghost use Rattle.rr_text.specs.Events.{event_of, told_at};
 ghost use Rattle.rr_text.specs.Reading.{keyword_text, pairs_at, fill_at, first_node_at, cuts_at, plain_at, fields_at, event_at, nodes_at, count_at};
 
@@ -315,10 +315,11 @@ fn plain_event(nodes: Nodes, bytes: &[u8]) -> Option<(Event, &[u8])>
     Some((plain(keyword, node), rest))
 }
 
-/// The node and the number of the message of a line on hearing one, and the bytes behind it; none for other lines. Only the
-/// number is searched for its end.
+/// The node and the number of the message of a line on hearing one, and the bytes behind it; none where no such line stands at
+/// the front of the bytes. Only the number is searched for its end.
 pub fn heard_line(nodes: Nodes, bytes: &[u8]) -> Option<(NodeId, u32, &[u8])>
-    ensures { IfSome result (λ x. IsEvent nodes (told_at x.0 (Input.Hear x.1)) × (bytes.now ≡ event_line (told_at x.0 (Input.Hear x.1)) ++ x.2.now)) }
+    ensures { MatchOption result (HearsNothing nodes bytes.now)
+        (λ x. IsEvent nodes (told_at x.0 (Input.Hear x.1)) × (bytes.now ≡ event_line (told_at x.0 (Input.Hear x.1)) ++ x.2.now)) }
 {
     let _count = nodes.count();
     let (digit, words) = heard_parts(bytes)?;
@@ -330,7 +331,9 @@ pub fn heard_line(nodes: Nodes, bytes: &[u8]) -> Option<(NodeId, u32, &[u8])>
 
 // The byte in the node's place of a line on hearing a message, and the bytes behind it and a space.
 fn heard_parts(bytes: &[u8]) -> Option<(u8, &[u8])>
-    ensures { IfSome result (λ x. bytes.now ≡ keyword_text EventKind.Hear ++ 32 ∷ x.0 ∷ 32 ∷ x.1.now) }
+    ensures { MatchOption result
+        ((d : ℕ) (words : List ℕ) → bytes.now ≡ keyword_text EventKind.Hear ++ 32 ∷ d ∷ 32 ∷ words → ⊥)
+        (λ x. bytes.now ≡ keyword_text EventKind.Hear ++ 32 ∷ x.0 ∷ 32 ∷ x.1.now) }
 {
     match bytes {
         [b'h', b'e', b'a', b'r', b' ', digit, b' ', words @ ..] => Some((*digit, words)),
