@@ -14,5 +14,6 @@ pub mod OtherAreas
 pub mod Phases
 pub mod Rewrites
 pub mod Stages
+pub mod StepsInPlace
 pub mod SwitchTable
 pub mod Switches

@@ -61,6 +61,6 @@ mod trust;
 pub use job::{Body, BodyOut, BodySafe, GateSet, Job};
 pub use journal::{Journal, frame};
 pub use opened::Opened;
-pub use opening::{Opening, Progress};
+pub use opening::{End, Opening, Progress};
 pub use switch::{SwitchJob, Switching};
 pub use synced::Synced;

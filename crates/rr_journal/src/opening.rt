@@ -20,6 +20,8 @@ ghost use Rattle.rr_journal.specs.OpeningTable.{IsReadBy, IsLeftBy, IsResting, R
 ghost use Rattle.rr_journal.specs.OpenDisks.{IsOpenWith, IsOpenAtRest, IsReady, disk_behind};
 ghost use Rattle.rr_image.specs.Held.{Holds};
 ghost use Rattle.rr_journal.specs.Stages.{calls_from as stage_calls};
+ghost use Rattle.rr_journal.specs.StepsInPlace.{journal_of, opened_of, as_progress, BeginsAgain};
+ghost use Rattle.rr_journal.specs.declared.opening.Phase.{Phase};
 ghost use Rattle.rr_journal.specs.OtherAreas.{other_area, IsOtherKnown};
 ghost use Rattle.rr_journal.specs.Rewrites.{IsRewriting, writes_anew, area_anew, area_kept, content_anew};
 
@@ -31,6 +33,7 @@ use rr_image::{Image, OPEN_GATE, take_image};
 use rr_types::{NodeId, Nodes, Promise, Refusal};
 use std::alloc::Global;
 use std::marker::Model;
+use std::mem;
 
 /// How far an opening has come: the device call that is due.
 #[derive(Debug, Drop)]
@@ -81,6 +84,16 @@ impl<D: Disk> Model for Opening<D> {
     ghost view = { λ o. record { disk = o.disk; nodes = o.nodes; node = o.node; phase = o.phase; fronts = o.fronts } };
 
     ghost invariant = { λ o. IsOwn o.nodes o.node o.phase };
+}
+
+/// What the last step of an opening found: where the journal appends, and the promise and the number of its facts.
+#[derive(Debug, Drop)]
+pub struct End {
+    area: Area,
+    epoch: u64,
+    gate: u64,
+    promise: Promise,
+    next: u64,
 }
 
 /// What a step of an opening gives.
@@ -162,14 +175,85 @@ impl<D: Disk> Opening<D> {
         ensures fronts { D.tells self.disk → KnowsFronts (phase_of self.phase) self.fronts (D.areas self.disk) → IfOk result (λ progress. KnowsOther D.areas progress) }
         ensures snapshot { IfOk result (λ progress. MaySnap progress) }
     {
+        let mut opening = self;
+        match opening.step_on(alloc) {
+            Err(refusal) => Err((refusal, opening.into_disk())),
+            Ok(None) => Ok(Progress::More(opening)),
+            Ok(Some(end)) => {
+                let (journal, opened) = opening.close(end);
+                Ok(Progress::Done(journal, opened))
+            }
+        }
+    }
+
+    /// Makes the next device call in place, where the node is one of its nodes. At the end it gives what `close` takes.
+    /// An opening that was refused, or has found its end, would begin anew over its disk.
+    ///
+    /// # Errors
+    /// As of `step`.
+    pub fn step_on(&mut self, alloc: Global) -> Result<Option<End>, Refusal>
+        requires { self.old.node < self.old.nodes }
+        ensures exact { Steps D.read_gives D.write_gives D.sync_gives self.old (as_progress self.new result) }
+        ensures call { D.calls (disk_after (as_progress self.new result)) ≡ counted (D.calls self.old.disk) }
+        ensures faults { D.faults self.old.disk ≤ D.faults (disk_after (as_progress self.new result)) }
+        ensures cause { IfErr (as_progress self.new result) (λ r. IsRefused D.faults self.old.disk r) }
+        ensures tells { D.tells self.old.disk → D.tells (disk_after (as_progress self.new result)) }
+        ensures course { D.tells self.old.disk → StaysOnCourse D.areas self.old (as_progress self.new result) }
+        ensures due { IsDue (phase_of self.old.phase) }
+        ensures untouched { D.tells self.old.disk → IsUntouched (phase_of self.old.phase) (D.areas self.old.disk) (D.areas (disk_after (as_progress self.new result))) }
+        ensures images { D.tells self.old.disk → MayStand (D.areas self.old.disk) → IsReading (phase_of self.old.phase) → AddsNone (D.areas self.old.disk) (D.areas (disk_after (as_progress self.new result))) }
+        ensures rests { D.tells self.old.disk → OpensAny self.old.nodes self.old.node self.old.phase (D.areas self.old.disk) → IfOk (as_progress self.new result) (λ progress. ComesToAny D.areas progress) }
+        ensures table { D.tells self.old.disk → (facts : List Fact) → OpensWith self.old.nodes self.old.node facts self.old.phase (D.areas self.old.disk)
+            → IfOk (as_progress self.new result) (λ progress. ComesTo D.areas facts progress) }
+        ensures undamaged { D.tells self.old.disk → (facts : List Fact) → OpensWith self.old.nodes self.old.node facts self.old.phase (D.areas self.old.disk)
+            → IfErr (as_progress self.new result) (λ r. (r.0 ≡ OutOfMemory) ⊎ (r.0 ≡ Device)) }
+        ensures kept { D.tells self.old.disk → (facts : List Fact) → OpensWith self.old.nodes self.old.node facts self.old.phase (D.areas self.old.disk)
+            → IsKept (Holds self.old.nodes self.old.node) facts (D.areas self.old.disk) (D.areas (disk_after (as_progress self.new result))) }
+        ensures fronts { D.tells self.old.disk → KnowsFronts (phase_of self.old.phase) self.old.fronts (D.areas self.old.disk) → IfOk (as_progress self.new result) (λ progress. KnowsOther D.areas progress) }
+        ensures snapshot { IfOk (as_progress self.new result) (λ progress. MaySnap progress) }
+        ensures whose { (self.new.nodes ≡ self.old.nodes) × (self.new.node ≡ self.old.node) }
+        ensures again { BeginsAgain D.areas self.new result }
+    {
+        make_step(
+            alloc,
+            &mut self.disk,
+            self.nodes,
+            self.node,
+            &mut self.phase,
+            &mut self.fronts,
+        )
+    }
+
+    /// The journal of an opening whose last step found this end, and the end of the opening.
+    pub fn close(self, end: End) -> (Journal<D>, Opened)
+        requires { (old : OpeningState D) × Steps D.read_gives D.write_gives D.sync_gives old (as_progress self (Ok (Some end))) }
+        ensures journal { result.0 ≡ journal_of self end }
+        ensures opened { result.1 ≡ opened_of self end }
+    {
         let Opening {
             disk,
             nodes,
             node,
-            phase,
+            phase: _,
             fronts,
         } = self;
-        make_step(alloc, disk, nodes, node, phase, fronts)
+        let End {
+            area,
+            epoch,
+            gate,
+            promise,
+            next,
+        } = end;
+        let closes_other = fronts.beside(area);
+        (
+            Journal::new(disk, nodes, node, area, epoch, gate, next, closes_other),
+            Opened {
+                nodes,
+                node,
+                promise,
+                next,
+            },
+        )
     }
 
     /// Makes all device calls that are left: the journal, and the end of its opening. A refused opening hands its
@@ -275,63 +359,88 @@ impl<D: Disk> Opening<FailingDisk<D>> {
 // Makes the next device call of an opening.
 fn make_step<D: Disk>(
     alloc: Global,
-    disk: D,
+    disk: &mut D,
     nodes: Nodes,
     node: NodeId,
-    phase: Phase,
-    fronts: Fronts,
-) -> Result<Progress<D>, (Refusal, D)>
+    phase: &mut Phase,
+    fronts: &mut Fronts,
+) -> Result<Option<End>, Refusal>
     requires exists { node < nodes }
-    requires own { IsOwn nodes node phase }
-    ensures exact { Steps D.read_gives D.write_gives D.sync_gives (record { disk = disk; nodes = nodes; node = node; phase = phase; fronts = fronts }) result }
-    ensures call { D.calls (disk_after result) ≡ counted (D.calls disk) }
-    ensures faults { D.faults disk ≤ D.faults (disk_after result) }
-    ensures cause { IfErr result (λ r. IsRefused D.faults disk r) }
-    ensures tells { D.tells disk → D.tells (disk_after result) }
-    ensures course { D.tells disk → StaysOnCourse D.areas (record { disk = disk; nodes = nodes; node = node; phase = phase; fronts = fronts }) result }
-    ensures due { IsDue (phase_of phase) }
-    ensures untouched { D.tells disk → IsUntouched (phase_of phase) (D.areas disk) (D.areas (disk_after result)) }
-    ensures images { D.tells disk → MayStand (D.areas disk) → IsReading (phase_of phase) → AddsNone (D.areas disk) (D.areas (disk_after result)) }
-    ensures rests { D.tells disk → OpensAny nodes node phase (D.areas disk) → IfOk result (λ progress. ComesToAny D.areas progress) }
-    ensures table { D.tells disk → (facts : List Fact) → OpensWith nodes node facts phase (D.areas disk)
-        → IfOk result (λ progress. ComesTo D.areas facts progress) }
-    ensures undamaged { D.tells disk → (facts : List Fact) → OpensWith nodes node facts phase (D.areas disk)
-        → IfErr result (λ r. (r.0 ≡ OutOfMemory) ⊎ (r.0 ≡ Device)) }
-    ensures kept { D.tells disk → (facts : List Fact) → OpensWith nodes node facts phase (D.areas disk)
-        → IsKept (Holds nodes node) facts (D.areas disk) (D.areas (disk_after result)) }
-    ensures fronts { D.tells disk → KnowsFronts (phase_of phase) fronts (D.areas disk) → IfOk result (λ progress. KnowsOther D.areas progress) }
-    ensures snapshot { IfOk result (λ progress. MaySnap progress) }
+    requires own { IsOwn nodes node phase.old }
+    ensures exact { Steps D.read_gives D.write_gives D.sync_gives (record { disk = disk.old; nodes = nodes; node = node; phase = phase.old; fronts = fronts.old }) (as_progress (record { disk = disk.new; nodes = nodes; node = node; phase = phase.new; fronts = fronts.new }) result) }
+    ensures call { D.calls (disk_after (as_progress (record { disk = disk.new; nodes = nodes; node = node; phase = phase.new; fronts = fronts.new }) result)) ≡ counted (D.calls disk.old) }
+    ensures faults { D.faults disk.old ≤ D.faults (disk_after (as_progress (record { disk = disk.new; nodes = nodes; node = node; phase = phase.new; fronts = fronts.new }) result)) }
+    ensures cause { IfErr (as_progress (record { disk = disk.new; nodes = nodes; node = node; phase = phase.new; fronts = fronts.new }) result) (λ r. IsRefused D.faults disk.old r) }
+    ensures tells { D.tells disk.old → D.tells (disk_after (as_progress (record { disk = disk.new; nodes = nodes; node = node; phase = phase.new; fronts = fronts.new }) result)) }
+    ensures course { D.tells disk.old → StaysOnCourse D.areas (record { disk = disk.old; nodes = nodes; node = node; phase = phase.old; fronts = fronts.old }) (as_progress (record { disk = disk.new; nodes = nodes; node = node; phase = phase.new; fronts = fronts.new }) result) }
+    ensures due { IsDue (phase_of phase.old) }
+    ensures untouched { D.tells disk.old → IsUntouched (phase_of phase.old) (D.areas disk.old) (D.areas (disk_after (as_progress (record { disk = disk.new; nodes = nodes; node = node; phase = phase.new; fronts = fronts.new }) result))) }
+    ensures images { D.tells disk.old → MayStand (D.areas disk.old) → IsReading (phase_of phase.old) → AddsNone (D.areas disk.old) (D.areas (disk_after (as_progress (record { disk = disk.new; nodes = nodes; node = node; phase = phase.new; fronts = fronts.new }) result))) }
+    ensures rests { D.tells disk.old → OpensAny nodes node phase.old (D.areas disk.old) → IfOk (as_progress (record { disk = disk.new; nodes = nodes; node = node; phase = phase.new; fronts = fronts.new }) result) (λ progress. ComesToAny D.areas progress) }
+    ensures table { D.tells disk.old → (facts : List Fact) → OpensWith nodes node facts phase.old (D.areas disk.old)
+        → IfOk (as_progress (record { disk = disk.new; nodes = nodes; node = node; phase = phase.new; fronts = fronts.new }) result) (λ progress. ComesTo D.areas facts progress) }
+    ensures undamaged { D.tells disk.old → (facts : List Fact) → OpensWith nodes node facts phase.old (D.areas disk.old)
+        → IfErr (as_progress (record { disk = disk.new; nodes = nodes; node = node; phase = phase.new; fronts = fronts.new }) result) (λ r. (r.0 ≡ OutOfMemory) ⊎ (r.0 ≡ Device)) }
+    ensures kept { D.tells disk.old → (facts : List Fact) → OpensWith nodes node facts phase.old (D.areas disk.old)
+        → IsKept (Holds nodes node) facts (D.areas disk.old) (D.areas (disk_after (as_progress (record { disk = disk.new; nodes = nodes; node = node; phase = phase.new; fronts = fronts.new }) result))) }
+    ensures fronts { D.tells disk.old → KnowsFronts (phase_of phase.old) fronts.old (D.areas disk.old) → IfOk (as_progress (record { disk = disk.new; nodes = nodes; node = node; phase = phase.new; fronts = fronts.new }) result) (λ progress. KnowsOther D.areas progress) }
+    ensures snapshot { IfOk (as_progress (record { disk = disk.new; nodes = nodes; node = node; phase = phase.new; fronts = fronts.new }) result) (λ progress. MaySnap progress) }
+    ensures own { IsOwn nodes node phase.new }
+    ensures again { BeginsAgain D.areas (record { disk = disk.new; nodes = nodes; node = node; phase = phase.new; fronts = fronts.new }) result }
 {
-    let mut disk = disk;
-    let called = call(alloc, &mut disk, &phase);
+    let called = call(alloc, disk, phase);
     match called {
-        Err(refusal) => Err((refusal, disk)),
+        Err(refusal) => {
+            *phase = Phase::Settling;
+            Err(refusal)
+        }
         Ok(read) => {
-            let fronts = fronts_behind(&phase, &read, fronts);
-            match go_on(alloc, nodes, node, phase, read) {
-                Err(refusal) => Err((refusal, disk)),
-                Ok(Next::Phase(phase)) => Ok(Progress::More(Opening {
-                    disk,
-                    nodes,
-                    node,
-                    phase,
-                    fronts,
-                })),
-                Ok(Next::Open(area, epoch, gate, promise, next)) => {
-                    let closes_other = fronts.beside(area);
-                    Ok(Progress::Done(
-                        Journal::new(disk, nodes, node, area, epoch, gate, next, closes_other),
-                        Opened {
-                            nodes,
-                            node,
-                            promise,
-                            next,
-                        },
-                    ))
+            *fronts = fronts_behind(phase, &read, *fronts);
+            match leave(alloc, nodes, node, phase, read) {
+                Err(refusal) => Err(refusal),
+                Ok(Next::Phase(next)) => {
+                    *phase = next;
+                    Ok(None)
                 }
+                Ok(Next::Open(area, epoch, gate, promise, next)) => Ok(Some(End {
+                    area,
+                    epoch,
+                    gate,
+                    promise,
+                    next,
+                })),
             }
         }
     }
+}
+
+/// What comes behind a device call that succeeded. The phase is left for the first.
+fn leave(
+    alloc: Global,
+    nodes: Nodes,
+    node: NodeId,
+    phase: &mut Phase,
+    read: Vec<u8>,
+) -> Result<Next, Refusal>
+    requires exists { node < nodes }
+    requires own { IsOwn nodes node phase.old }
+    ensures left { phase.new ≡ Phase.Settling }
+    ensures own { IfOk result (λ next. MayGoOn nodes node next) }
+    ensures exact { Follows result (phase_of phase.old) (after_opening_call nodes node read.items (phase_of phase.old)) }
+    ensures rests { (old new : Areas) → OpensAny nodes node phase.old old → IsReadBy (due_call (phase_of phase.old)) old read.items
+        → new ≡ after_call (due_call (phase_of phase.old)) old → IfOk result (λ next. GoesOnAny nodes node next new) }
+    ensures table { (facts : List Fact) (old new : Areas) → OpensWith nodes node facts phase.old old → IsReadBy (due_call (phase_of phase.old)) old read.items
+        → new ≡ after_call (due_call (phase_of phase.old)) old → IfOk result (λ next. GoesOnWith nodes node facts next new) }
+    ensures undamaged { (facts : List Fact) (old : Areas) → OpensWith nodes node facts phase.old old → IsReadBy (due_call (phase_of phase.old)) old read.items
+        → IfErr result (λ e. e ≡ OutOfMemory) }
+{
+    go_on(
+        alloc,
+        nodes,
+        node,
+        mem::replace(phase, Phase::Settling),
+        read,
+    )
 }
 
 /// What comes behind a device call.

@@ -5,7 +5,7 @@ use Rattle.rr_frame.specs.Snapshots.{IsSnapshot}
 use Rattle.rr_image.specs.declared.image.Image.{Image}
 use Rattle.rr_image.specs.Ends.{Finds}
 use Rattle.rr_image.specs.Held.{StandsFor, Holds}
-use Rattle.rr_image.specs.Image.{Content, Found, Unformatted, Active, Outdated, found}
+use Rattle.rr_image.specs.Image.{Content, Found, Unformatted, Outdated, found}
 use Rattle.rr_journal.specs.Calls.{must_close}
 use Rattle.rr_journal.specs.Moments.{image_of}
 use Rattle.rr_journal.specs.Openings.{snapshot_with, bytes_in}

@@ -3,7 +3,6 @@ use Rattle.rr_journal.specs.declared.opening.Progress.{Progress}
 use Rattle.rr_image.specs.Held.{Holds}
 use Rattle.rr_journal.specs.Phases.{phase_of}
 use Rattle.rr_types.specs.Counts.{counted}
-use Rattle.rr_image.specs.Image.{Found}
 use Rattle.rr_journal.specs.Openings.{end_by}
 use Rattle.rr_journal.specs.OpeningCourse.{StaysOnCourse, IsUntouched}
 use Rattle.rr_frame.specs.Snapshots.{IsSnapshot}
