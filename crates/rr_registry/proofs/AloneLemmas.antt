@@ -10,10 +10,9 @@ use Rattle.rr_types.specs.Registry.{is_same_request, apply_op, apply, holding_of
 use Rattle.rr_places.specs.Places.{filled}
 use Rattle.rr_places.proofs.PlaceLemmas.{filled-put, none_of_none}
 use Rattle.rr_registry.specs.declared.names.Names.{Names}
-use Rattle.rr_registry.specs.declared.names.Effect.{Effect}
 use Rattle.rr_registry.specs.declared.tables.Tables.{Tables}
 use Rattle.rr_registry.specs.Kept.{request_cmp, kept_reply, keep, applied}
-use Rattle.rr_registry.specs.Tables.{bindings_in, effected, kept_in, name_of, HasFreeOnlyFor, HasNoFreeName}
+use Rattle.rr_registry.specs.Tables.{bindings_in, kept_in, HasFreeOnlyFor, HasNoFreeName}
 use Rattle.rr_registry.proofs.TableLemmas.{lookup-request, exact_requests}
 use Rattle.rr_registry.proofs.FreeLemmas.{first, alone}
 use Rattle.rr_registry.proofs.KeptLemmas.{lookup-insert_entry, requests_total, applied_known, applied_new}
@@ -54,13 +53,12 @@ same_free t replies same free = record {
   replies = λ q there. ap (λ es. is_some (lookup (is_same_request q) (filled es)) || false) same ∙ free.replies q (ap (λ es. is_some (lookup (is_at (request_cmp q)) es)) (sym same) ∙ there);
 }
 
--- a command of a new request has its effect, and its reply is kept
-pub applied_alone : (t : Tables) (names : Names) (c : Command) (effect : Effect) (reply : Reply) → IsStrictlySortedBy request_cmp (keys_of t.replies.entries) → lookup (is_at (request_cmp c.request)) t.replies.entries ≡ None → bindings_in names ≡ effected (bindings_in t.names) (name_of c.op) effect → (effected (bindings_in t.names) (name_of c.op) effect, reply) ≡ apply_op (bindings_in t.names) c.request.client c.op → record { bindings = bindings_in names; replies = filled (insert_entry request_cmp t.replies.entries c.request (Some reply)) } ≡ applied (kept_in t) c
-applied_alone t names c effect reply sorted none bindings step =
+-- a command of a new request is applied, and its reply is kept
+pub applied_alone : (t : Tables) (names : Names) (c : Command) (reply : Reply) → IsStrictlySortedBy request_cmp (keys_of t.replies.entries) → lookup (is_at (request_cmp c.request)) t.replies.entries ≡ None → (bindings_in names, reply) ≡ apply_op (bindings_in t.names) c.request.client c.op → record { bindings = bindings_in names; replies = filled (insert_entry request_cmp t.replies.entries c.request (Some reply)) } ≡ applied (kept_in t) c
+applied_alone t names c reply sorted none step =
     let es = t.replies.entries in
-    let bound = bindings ∙ ap (λ s. s.0) step in
     let kept = reply_put es c.request reply sorted ∙ ap (λ s. insert_entry request_cmp (filled es) c.request s.1) step in
-    ap (λ m. record { bindings = m; replies = filled (insert_entry request_cmp es c.request (Some reply)) }) bound
+    ap (λ s. record { bindings = s.0; replies = filled (insert_entry request_cmp es c.request (Some reply)) }) step
     ∙ ap (λ rs. record { bindings = (apply_op (bindings_in t.names) c.request.client c.op).0; replies = rs }) kept
     ∙ sym (new_alone t c none)
 

@@ -17,7 +17,7 @@ use Rattle.rr_types.specs.declared.command.Reply.TheVariants.{Unknown}
 use Rattle.rr_types.specs.Registry.{Holding, Bindings, holding_of, apply_op}
 use Rattle.rr_registry.specs.declared.names.Names.{Names}
 use Rattle.rr_places.specs.Places.{filled, has_place, put_entry, held}
-use Rattle.rr_places.proofs.PlaceLemmas.{joined, place_of_value, lookup-filled}
+use Rattle.rr_places.proofs.PlaceLemmas.{joined, place_of_value, lookup-filled, filled-put}
 use Rattle.rr_registry.specs.Tables.{bindings_in, has_name_place, has_op_place, name_of}
 use Rattle.rr_registry.proofs.PlacedLemmas.{filled-set, count-set}
 use Rattle.rr_registry.proofs.TableLemmas.{lookup-name}
@@ -102,3 +102,23 @@ held_some (Some x) h = refl
 -- a name whose free place is gone, by each of its spellings
 pub gone_at : (m : Bindings) (es : List (List ℕ × Option Holding)) (k n : List ℕ) → bytes_eq k n ≡ true → has_place (slice_cmp nat_cmp) es k ≡ is_some (lookup (is_at (slice_cmp nat_cmp k)) m) → has_place (slice_cmp nat_cmp) es n ≡ is_some (holding_of m n)
 gone_at m es k n same gone = subst (λ (x : List ℕ). has_place (slice_cmp nat_cmp) es x ≡ is_some (holding_of m x)) ((bytes_eq-Decides k n).0 same) (gone ∙ ap is_some (lookup-name k m))
+
+unheld_by : (t : Names) (n : List ℕ) → has_name_place t n ≡ false → (b : Bool) → is_some (holding_of (bindings_in t) n) ≡ b → b ≡ false
+unheld_by t n none true h = let p = place_of_bound t n h in cc
+unheld_by t n none false h = refl
+
+-- a name without a place has no holding
+pub unheld : (t : Names) (n : List ℕ) → has_name_place t n ≡ false → is_some (holding_of (bindings_in t) n) ≡ false
+unheld t n none = unheld_by t n none (is_some (holding_of (bindings_in t) n)) refl
+
+pub none_of_unheld : (o : Option Holding) → is_some o ≡ false → o ≡ None
+none_of_unheld None h = refl
+none_of_unheld (Some x) h = cc
+
+-- the bound names once a name got a new place with a holding
+pub put_new : (es : List (List ℕ × Option Holding)) (k : List ℕ) (x : Holding) → IsStrictlySortedBy (slice_cmp nat_cmp) (keys_of es) → filled (insert_entry (slice_cmp nat_cmp) es k (Some x)) ≡ insert_entry (slice_cmp nat_cmp) (filled es) k x
+put_new es k x sorted = filled-put (slice_cmp nat_cmp) nat_list_cmp_total exact_bytes k (Some x) es sorted
+
+-- and how many there are
+pub count_new : (t : Names) (k : List ℕ) (x : Holding) → has_name_place t k ≡ false → length (insert_entry (slice_cmp nat_cmp) (bindings_in t) k x) ≡ length (bindings_in t) + 1
+count_new t k x none = length_inserted (slice_cmp nat_cmp) k x (bindings_in t) (lookup-name k (bindings_in t) ∙ none_of_unheld (holding_of (bindings_in t) k) (unheld t k none))

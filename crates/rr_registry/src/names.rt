@@ -1,8 +1,14 @@
 //! The bound names, and what an operation does to its name.
 
-ghost use Rattle.std.specs.Prelude.{◌≡◌, ℕ, List, [], ◌+◌, length, true, false, is_some, IsTrue, IsSome, OnOk, OnErr};
+ghost use Rattle.std.specs.Prelude.{◌≡◌, ℕ, List, [], ◌+◌, length, ◌<◌, true, false, not, Some, is_some, IsTrue, IsSome, IfOk, OnOk, OnErr};
+ghost use Rattle.std.specs.BTreeMap.{insert_entry, is_at};
+ghost use Rattle.std.specs.Cmp.Lexicographic.{slice_cmp};
+ghost use Rattle.std.specs.List.Sorted.{IsStrictlySortedBy};
+ghost use Rattle.std.specs.Map.{keys_of};
+ghost use Rattle.std.specs.Ordering.{nat_cmp};
 ghost use Rattle.rr_types.specs.Registry.{Bindings, holding_of, apply_op, bind};
-ghost use Rattle.rr_places.specs.Places.{held};
+ghost use Rattle.rr_types.specs.Limits.{max_bound};
+ghost use Rattle.rr_places.specs.Places.{held, has_place};
 ghost use Rattle.rr_registry.specs.Tables.{bindings_in, effected, has_name_place, has_op_place, name_of, may_free, CanHave, IsCounted, HasNoFreeName};
 
 use crate::entries::Entries;
@@ -11,6 +17,7 @@ use rr_places::{drop_free_place, insert, make_place, put, value_at};
 use rr_types::{Name, Op, Reply, Value};
 use std::alloc::{AllocError, Global};
 use std::collections::BTreeMap;
+use std::collections::btree_map::Entry;
 
 /// The most names that are bound at a time.
 pub const MAX_BOUND: usize = 4096;
@@ -139,6 +146,47 @@ impl Names {
         Ok(())
     }
 
+    /// Binds a name that is free, and tells whether it was. Where memory is refused the names are as they were.
+    fn bind_free(&mut self, name: &Name, holding: Holding) -> Result<bool, AllocError>
+        requires room { self.old.bound < max_bound }
+        requires counted { IsCounted self.old }
+        requires free { HasNoFreeName self.old }
+        ensures was { IfOk result (λ is_free. is_some (holding_of (bindings_in self.old) name.now) ≡ not is_free) }
+        ensures bound { IfOk result (λ is_free. IsTrue is_free → bindings_in self.new ≡ bind (bindings_in self.old) name.now holding.owner holding.value) }
+        ensures taken { IfOk result (λ is_free. is_free ≡ false → bindings_in self.new ≡ bindings_in self.old) }
+        ensures err { OnErr result (bindings_in self.new ≡ bindings_in self.old) }
+        ensures counted { IsCounted self.new }
+        ensures free { HasNoFreeName self.new }
+    {
+        if put_new(&mut self.places, name, holding)? {
+            self.bound += 1;
+            return Ok(true);
+        }
+        Ok(false)
+    }
+
+    /// Applies an operation for a client, and gives the reply. No place is free, and none is left so. Where memory is
+    /// refused the names are as they were.
+    pub(crate) fn apply(&mut self, client: u32, op: &Op) -> Result<Reply, AllocError>
+        requires counted { IsCounted self.old }
+        requires free { HasNoFreeName self.old }
+        ensures step { IfOk result (λ reply. (bindings_in self.new, reply) ≡ apply_op (bindings_in self.old) client op.now) }
+        ensures err { OnErr result (bindings_in self.new ≡ bindings_in self.old) }
+        ensures counted { IsCounted self.new }
+        ensures free { HasNoFreeName self.new }
+    {
+        if self.bound < MAX_BOUND {
+            if let Op::Claim(name, value) = op {
+                if self.bind_free(name, Holding::new(client, *value))? {
+                    return Ok(Reply::Claimed);
+                }
+            }
+        }
+        let (effect, reply) = self.outcome(client, op);
+        self.try_change(op, effect)?;
+        Ok(reply)
+    }
+
     /// Makes the place that an operation needs.
     pub(crate) fn make_place(&mut self, op: &Op) -> Result<(), AllocError>
         ensures bindings { bindings_in self.new ≡ bindings_in self.old }
@@ -172,6 +220,29 @@ impl Names {
             Op::Update(_, _) => (),
             Op::Release(name) => drop_free_place(&mut self.places, name),
             Op::Transfer(_, _) => (),
+        }
+    }
+}
+
+/// Gives a name that has no place this holding, and tells whether it had none. Its place is found once. Where memory is
+/// refused the places are as they were.
+fn put_new(
+    places: &mut BTreeMap<Name, Option<Holding>>,
+    name: &Name,
+    holding: Holding,
+) -> Result<bool, AllocError>
+    ensures was { IfOk result (λ is_new. has_place (slice_cmp nat_cmp) places.old.entries name.now ≡ not is_new) }
+    ensures put { IfOk result (λ is_new. IsTrue is_new → places.new.entries ≡ insert_entry (slice_cmp nat_cmp) places.old.entries name.now (Some holding)) }
+    ensures only { (n : List ℕ) → is_at (slice_cmp nat_cmp name.now) n ≡ false → has_place (slice_cmp nat_cmp) places.new.entries n ≡ has_place (slice_cmp nat_cmp) places.old.entries n }
+    ensures kept { IfOk result (λ is_new. is_new ≡ false → places.new.entries ≡ places.old.entries) }
+    ensures err { OnErr result (places.new.entries ≡ places.old.entries) }
+    ensures sorted { IsStrictlySortedBy (slice_cmp nat_cmp) (keys_of places.old.entries) }
+{
+    match places.entry(*name)? {
+        Entry::Occupied(_held) => Ok(false),
+        Entry::Vacant(place) => {
+            place.insert(Some(holding));
+            Ok(true)
         }
     }
 }

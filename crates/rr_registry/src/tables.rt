@@ -81,8 +81,7 @@ impl Tables {
             // No place is free, so this one has the reply.
             Entry::Occupied(_kept) => Ok(()),
             Entry::Vacant(place) => {
-                let (effect, reply) = self.names.outcome(command.request.client, &command.op);
-                self.names.try_change(&command.op, effect)?;
+                let reply = self.names.apply(command.request.client, &command.op)?;
                 place.insert(Some(reply));
                 Ok(())
             }

@@ -20,23 +20,23 @@ returns-in-Occupied-clause-sound c =
     let unchanged : (entry_map_ref c.in_ok-_kept.field-0).now.entries ≡ c.args.self.now.replies.entries = c.in_ok-_kept.ensures.unchanged in
     (c.requires.sound.0, same_free c.args.self.now _ (grind (arith, common_steps)) c.requires.sound.1)
 
-pub returns-in_ok-try_change-in-Vacant-clause-kept : goal.returns-in_ok-try_change-in-Vacant-clause-kept
-returns-in_ok-try_change-in-Vacant-clause-kept c =
+pub returns-in_ok-reply-in-Vacant-clause-kept : goal.returns-in_ok-reply-in-Vacant-clause-kept
+returns-in_ok-reply-in-Vacant-clause-kept c =
     let found : lookup (is_at (request_cmp c.args.command.now.request)) c.args.self.now.replies.entries ≡ None =
     (let found = c.in_ok-_kept.ensures.found in grind (arith, common_steps)) in
     let entries : (map_with_value c.in_ok-_kept.field-0 c.insert.result.now).entries ≡ insert_entry request_cmp c.args.self.now.replies.entries c.args.command.now.request c.insert.result.now = c.in_ok-_kept.ensures.update.1 c.insert.result.now in
-    let applied = applied_alone c.args.self.now c.try_change.new.self c.args.command.now c.outcome-effect.result.0 c.outcome-effect.result.1 c.entry.ensures.ordered found c.in_ok-try_change-in-Vacant.ensures.bindings c.outcome-effect.ensures.step in
+    let applied = applied_alone c.args.self.now c.apply.new.self c.args.command.now c.in_ok-reply-in-Vacant.reply c.entry.ensures.ordered found c.in_ok-reply-in-Vacant.ensures.step in
     grind (arith, common_steps)
 
-pub returns-in_ok-try_change-in-Vacant-clause-sound : goal.returns-in_ok-try_change-in-Vacant-clause-sound
-returns-in_ok-try_change-in-Vacant-clause-sound c =
+pub returns-in_ok-reply-in-Vacant-clause-sound : goal.returns-in_ok-reply-in-Vacant-clause-sound
+returns-in_ok-reply-in-Vacant-clause-sound c =
     let entries : (map_with_value c.in_ok-_kept.field-0 c.insert.result.now).entries ≡ insert_entry request_cmp c.args.self.now.replies.entries c.args.command.now.request c.insert.result.now = c.in_ok-_kept.ensures.update.1 c.insert.result.now in (
-      c.try_change.ensures.counted,
-      free_alone c.args.self.now c.try_change.new.self _ c.args.command.now.request c.outcome-effect.result.1 c.entry.ensures.ordered
+      c.apply.ensures.counted,
+      free_alone c.args.self.now c.apply.new.self _ c.args.command.now.request c.in_ok-reply-in-Vacant.reply c.entry.ensures.ordered
           (grind (arith, common_steps))
           c.requires.sound.1
-          c.try_change.ensures.free,
+          c.apply.ensures.free,
     )
 
-pub returns-in_err-try_change-in-Vacant-clause-sound : goal.returns-in_err-try_change-in-Vacant-clause-sound
-returns-in_err-try_change-in-Vacant-clause-sound c = (c.try_change.ensures.counted, grind (arith, common_steps))
+pub returns-in_err-reply-in-Vacant-clause-sound : goal.returns-in_err-reply-in-Vacant-clause-sound
+returns-in_err-reply-in-Vacant-clause-sound c = (c.apply.ensures.counted, grind (arith, common_steps))
