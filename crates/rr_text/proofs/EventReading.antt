@@ -1,8 +1,9 @@
 -- Events: reading gives what was printed, and what is read is printed so.
-use Rattle.std.proofs.Common.{◌≡◌, ℕ, ◌^◌, ◌<◌, ◌≤◌, List, [], ◌∷◌, ◌++◌, Option, None, Some, codes, decimal, refl, ap, subst, ◌∙◌, sym, arith}
+use Rattle.std.proofs.Common.{◌≡◌, ℕ, ◌+◌, ◌^◌, ◌<◌, ◌≤◌, List, [], ◌∷◌, ◌++◌, get_or, Option, None, Some, codes, decimal, refl, ap, subst, ◌∙◌, sym, arith}
 use Rattle.std.specs.Prelude.{IfSome}
 use Rattle.std.proofs.lemmas.Option.{same_Some}
 use Rattle.std.proofs.lemmas.List.{append_assoc}
+use Rattle.std.proofs.lemmas.Fmt.{decimal_digit}
 use Rattle.rr_types.specs.Names.{IsName, IsValue}
 use Rattle.rr_types.specs.declared.command.Op.{Op}
 use Rattle.rr_types.specs.declared.command.Op.TheVariants as ops
@@ -74,6 +75,33 @@ first_node_takes n text x few e =
     let cut : text ≡ w.0.0 ++ 32 ∷ w.0.1 = cut_takes 32 text w.0.0 w.0.1 w.1 in
     let made : ℕ × List ℕ = (p.0, w.0.1) in
     subst (λ (y : ℕ × List ℕ). (decimal y.0 ++ 32 ∷ y.1 ≡ text) × (y.0 < n)) (same_Some made x p.2) (ap (λ (y : List ℕ). y ++ 32 ∷ w.0.1) t.0 ∙ sym cut, t.1)
+
+no_value : {A : Type 0} (o : Option A) → ((x : A) → o ≡ Some x → ⊥) → o ≡ None
+no_value None h = refl
+no_value (Some x) h = absurd (h x refl)
+
+-- a text that begins with a node begins with one byte and a space
+pub first_node_apart : (n : ℕ) (text : List ℕ) → n ≤ 7 → ((b : ℕ) (rest : List ℕ) → text ≡ b ∷ 32 ∷ rest → ⊥) → first_node_at n text ≡ None
+first_node_apart n text few apart = no_value (first_node_at n text) (λ x given.
+    let t = first_node_takes n text x few given in
+    let is : decimal x.0 ≡ (48 + x.0) ∷ [] = decimal_digit x.0 (omega (arith, few, t.1)) in
+    apart (48 + x.0) x.1 (sym t.0 ∙ ap (λ (w : List ℕ). w ++ 32 ∷ x.1) is))
+
+first_node_known : (n b : ℕ) (rest : List ℕ) (o : Option ℕ) → n ≤ 7 → node_at n (b ∷ []) ≡ o → first_node_at n (b ∷ 32 ∷ rest) ≡ (o >>= λ p. Some (p, rest))
+first_node_known n b rest (Some p) few e =
+    let t = node_takes n (b ∷ []) p few e in
+    ap (λ (w : List ℕ). first_node_at n (w ++ 32 ∷ rest)) (sym t.0) ∙ first_node_again n p rest few t.1
+first_node_known n b rest None few e = no_value (first_node_at n (b ∷ 32 ∷ rest)) (λ x given.
+    let t = first_node_takes n (b ∷ 32 ∷ rest) x few given in
+    let is : decimal x.0 ≡ (48 + x.0) ∷ [] = decimal_digit x.0 (omega (arith, few, t.1)) in
+    let same : (48 + x.0) ∷ 32 ∷ x.1 ≡ b ∷ 32 ∷ rest = ap (λ (w : List ℕ). w ++ 32 ∷ x.1) (sym is) ∙ t.0 in
+    let front : 48 + x.0 ≡ b = ap (λ (w : List ℕ). get_or w 0 0) same in
+    let again : node_at n (b ∷ []) ≡ Some x.0 = ap (node_at n) (ap (λ c. c ∷ []) (sym front) ∙ sym is) ∙ node_again n x.0 few t.1 in
+    let no : None ≡ Some x.0 = sym e ∙ again in cc)
+
+-- where the first word is one byte, it is the node that this byte is
+pub first_node_front : (n b : ℕ) (rest : List ℕ) → n ≤ 7 → first_node_at n (b ∷ 32 ∷ rest) ≡ (node_at n (b ∷ []) >>= λ p. Some (p, rest))
+first_node_front n b rest few = first_node_known n b rest (node_at n (b ∷ [])) few refl
 
 -- the words of a crash behind the node
 abbrev cuts_text : ℕ × ℕ × List ℕ → List ℕ

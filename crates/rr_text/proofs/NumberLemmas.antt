@@ -1,5 +1,5 @@
 -- Numbers in decimal: reading gives what was printed, and what is read is printed so.
-use Rattle.std.proofs.Common.{◌≡◌, ℕ, zero, suc, ◌+◌, ◌-◌, ◌*◌, ◌^◌, ◌<◌, ◌≤◌, Bool, true, false, cond, ltb, eqb, leb, not, ◌&&◌, List, [], ◌∷◌, length, get_or, take, None, Some, decimal, refl, ap, ◌∙◌, sym, arith}
+use Rattle.std.proofs.Common.{◌≡◌, ℕ, zero, suc, ◌+◌, ◌-◌, ◌*◌, ◌^◌, ◌<◌, ◌≤◌, Bool, true, false, cond, ltb, eqb, leb, not, ◌&&◌, List, [], ◌∷◌, length, get_or, take, None, Some, decimal, refl, ap, ◌∙◌, sym, arith, ◌⊎◌, inl, inr}
 use Rattle.std.specs.List.{list_all}
 use Rattle.std.specs.Char.{digit_value}
 use Rattle.std.specs.Str.Parse.{digits_value}
@@ -7,8 +7,9 @@ use Rattle.std.proofs.lemmas.List.{take_all}
 use Rattle.std.proofs.lemmas.Fmt.{digits_decimal, digits_value-decimal, decimal_nonempty, first_decimal, decimal-digits_value, decimal_digit}
 use Rattle.std.proofs.lemmas.Int.Digits.{digits_value_more}
 use Rattle.std.proofs.lemmas.Str.Parse.{IsNumeralModel, IsDigitsTest, numerals_by_value, digits_value-take-le}
+use Rattle.std.proofs.lemmas.List.Folds.{list_all_more}
 use Rattle.std.proofs.lemmas.List.Recursion.{and_at}
-use Rattle.std.proofs.lemmas.Bool.{and_parts, and_from, leb-true, ltb-true, le-ltb, lt-ltb, le-leb, not-true, eqb-false, ne_eqb}
+use Rattle.std.proofs.lemmas.Bool.{and_parts, and_from, leb-true, ltb-true, le-ltb, lt-ltb, le-leb, not-true, eqb-false, ne_eqb, cases_Bool}
 use Rattle.std.proofs.lemmas.Bool.Decides.{nat_tests}
 use Rattle.std.proofs.lemmas.Option.{same_Some, cond_some}
 use Rattle.rr_text.specs.Reading.{number_at, small_at, node_at}
@@ -22,13 +23,17 @@ digit_range b h = let p = and_parts (leb 48 b) (leb b 57) h in (leb-true 48 b p.
 digit_value_is : (b : ℕ) → 48 ≤ b → b ≤ 57 → digit_value b ≡ b - 48
 digit_value_is b low high = grind (arith, nat_tests)
 
-digit_at : (ds : List ℕ) (i : ℕ) → i < length ds → list_all is_digit ds ≡ true → (48 ≤ get_or ds i 0) × (get_or ds i 0 ≤ 57)
-digit_at ds i lt h = digit_range _ (and_at (list_all is_digit) is_digit refl (λ _ _. refl) ds i 0 lt h)
+digit_at : (ds : List ℕ) (i : ℕ) → i < length ds → list_all is_digit ds ≡ true → is_digit (get_or ds i 0) ≡ true
+digit_at ds i lt h = and_at (list_all is_digit) is_digit refl (λ _ _. refl) ds i 0 lt h
+
+-- where the bytes before a digit are digits, so are those up to it
+pub digits_tested : (ds : List ℕ) (i : ℕ) → i < length ds → list_all is_digit (take i ds) ≡ true → is_digit (get_or ds i 0) ≡ true → list_all is_digit (take (i + 1) ds) ≡ true
+digits_tested ds i lt before here = list_all_more is_digit ds i 0 lt ∙ and_from _ _ before here
 
 -- the number that the digits up to this one write
-pub digits_on : (ds : List ℕ) (i v : ℕ) → i < length ds → list_all is_digit ds ≡ true → v ≡ digits_value 10 (take i ds) → v * 10 + (get_or ds i 0 - 48) ≡ digits_value 10 (take (i + 1) ds)
+pub digits_on : (ds : List ℕ) (i v : ℕ) → i < length ds → is_digit (get_or ds i 0) ≡ true → v ≡ digits_value 10 (take i ds) → v * 10 + (get_or ds i 0 - 48) ≡ digits_value 10 (take (i + 1) ds)
 digits_on ds i v lt h e =
-    let r = digit_at ds i lt h in
+    let r = digit_range (get_or ds i 0) h in
     let m = digits_value_more 10 ds i lt in
     let d = digit_value_is (get_or ds i 0) r.0 r.1 in
     rw e (sym (rw (← d) m))
@@ -36,14 +41,24 @@ digits_on ds i v lt h e =
 -- where the digits up to this one are too many, all of them are
 pub digits_over : (ds : List ℕ) (i v : ℕ) → i < length ds → list_all is_digit ds ≡ true → v ≡ digits_value 10 (take i ds) → ¬ (v * 10 + (get_or ds i 0 - 48) < 2 ^ 64) → ltb (digits_value 10 ds) (2 ^ 64) ≡ false
 digits_over ds i v lt h e over =
-    let n = digits_on ds i v lt h e in
+    let n = digits_on ds i v lt (digit_at ds i lt h) e in
     let le = digits_value-take-le 10 ds (i + 1) (omega arith) in
     le-ltb _ _ (omega (arith, n, le))
 
-pub digits_end : (ds : List ℕ) (i v : ℕ) → length ds ≤ i → v ≡ digits_value 10 (take i ds) → v < 2 ^ 64 → cond (ltb (digits_value 10 ds) (2 ^ 64)) (Some (digits_value 10 ds)) None ≡ Some v
-digits_end ds i v le e lt =
+-- a byte that is no digit, or one digit too many, ends it
+pub digits_stop : (ds : List ℕ) (i v : ℕ) → i < length ds → v ≡ digits_value 10 (take i ds) → ¬ ((is_digit (get_or ds i 0) ≡ true) × (v * 10 + (get_or ds i 0 - 48) < 2 ^ 64))
+    → cond (list_all is_digit ds) (cond (ltb (digits_value 10 ds) (2 ^ 64)) (Some (digits_value 10 ds)) None) None ≡ None
+digits_stop ds i v lt e stop = elim (cases_Bool (list_all is_digit ds)) [
+  | inl h ↦ let over = digits_over ds i v lt h e (λ l. stop (digit_at ds i lt h, l)) in rw (h, over) refl
+  | inr h ↦ rw h refl
+]
+
+pub digits_end : (ds : List ℕ) (i v : ℕ) → length ds ≤ i → list_all is_digit (take i ds) ≡ true → v ≡ digits_value 10 (take i ds) → v < 2 ^ 64
+    → cond (list_all is_digit ds) (cond (ltb (digits_value 10 ds) (2 ^ 64)) (Some (digits_value 10 ds)) None) None ≡ Some v
+digits_end ds i v le tested e lt =
+    let all : list_all is_digit ds ≡ true = ap (list_all is_digit) (sym (take_all i ds le)) ∙ tested in
     let w : v ≡ digits_value 10 ds = e ∙ ap (digits_value 10) (take_all i ds le) in
-    rw (← w, lt-ltb v (2 ^ 64) lt) refl
+    rw (all, ← w, lt-ltb v (2 ^ 64) lt) refl
 
 tells : IsDigitsTest (λ ds. list_all is_digit ds ≡ true)
 tells = record {

@@ -11,7 +11,7 @@ ghost use Rattle.rr_text.specs.Scheduled.{Scheduled, IsEvent, IsSchedule};
 ghost use Rattle.rr_text.specs.Lines.{nodes_line, HasNoLine, ArePrinted, IsStop, IsFirstFault, IsFault};
 ghost use Rattle.rr_text.specs.ScheduleTexts.{event_line, HearsNothing, schedule_text};
 ghost use Rattle.rr_text.specs.Events.{event_of, told_at};
-ghost use Rattle.rr_text.specs.Reading.{keyword_text, pairs_at, fill_at, first_node_at, cuts_at, plain_at, fields_at, event_at, nodes_at, count_at};
+ghost use Rattle.rr_text.specs.Reading.{keyword_text, node_at, pairs_at, fill_at, first_node_at, cuts_at, plain_at, fields_at, event_at, nodes_at, count_at};
 
 use crate::event::{Event, Fill, Happening};
 use crate::kind::EventKind;
@@ -56,16 +56,28 @@ fn fill(alloc: Global, word: &[u8]) -> Result<Option<Fill>, AllocError>
     }
 }
 
-/// The node that a first word is, and the text behind it.
+// The node whose number a digit is.
+fn node_of(nodes: Nodes, digit: u8) -> Option<NodeId>
+    ensures { result ≡ node_at nodes (digit ∷ []) }
+{
+    if digit < b'0' {
+        return None;
+    }
+    NodeId::new(nodes, digit - b'0')
+}
+
+/// The node that a first word is, and the text behind it. Such a word is one byte, so no byte is searched for a space.
+#[tactic(auto, using(crate::proofs::EventReading::first_node_front, crate::proofs::EventReading::first_node_apart))]
 pub fn first_node(nodes: Nodes, text: &[u8]) -> Option<(NodeId, &[u8])>
     ensures { MatchOption result (first_node_at nodes text.now ≡ None) (λ x. first_node_at nodes text.now ≡ Some (x.0, x.1.now)) }
 {
-    match cut(text, b' ') {
-        Some((word, rest)) => match node(nodes, word) {
+    let _count = nodes.count();
+    match text {
+        [digit, b' ', rest @ ..] => match node_of(nodes, *digit) {
             Some(node) => Some((node, rest)),
             None => None,
         },
-        None => None,
+        _ => None,
     }
 }
 

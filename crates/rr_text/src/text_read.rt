@@ -63,23 +63,26 @@ fn has_only_digits(word: &[u8]) -> bool
     word.iter().all(|byte| matches!(byte, b'0'..=b'9'))
 }
 
+// The number with one more digit; none where the byte is no digit or the number is too large.
 fn with_digit(value: u64, digit: u8) -> Option<u64>
-    requires { 48 ≤ digit }
-    ensures { SomeIff result (value * 10 + (digit - 48) < 2 ^ 64) (value * 10 + (digit - 48)) }
+    ensures { SomeIff result ((is_digit digit ≡ true) × (value * 10 + (digit - 48) < 2 ^ 64)) (value * 10 + (digit - 48)) }
 {
+    if !matches!(digit, b'0'..=b'9') {
+        return None;
+    }
     match value.checked_mul(10) {
         Some(tens) => tens.checked_add(u64::from(digit - b'0')),
         None => None,
     }
 }
 
-#[tactic(auto, using(crate::proofs::NumberLemmas::digits_on, crate::proofs::NumberLemmas::digits_over, crate::proofs::NumberLemmas::digits_end))]
-fn digits_value(digits: &[u8]) -> Option<u64>
-    requires { list_all is_digit digits.now ≡ true }
-    ensures { result ≡ (if nat_lt (digits_value 10 digits.now) (2 ^ 64) then Some (digits_value 10 digits.now) else None) }
+// The number that a word of digits alone is, in one pass.
+#[tactic(auto, using(crate::proofs::NumberLemmas::digits_on, crate::proofs::NumberLemmas::digits_tested))]
+fn digits_value(word: &[u8]) -> Option<u64>
+    ensures { result ≡ (if list_all is_digit word.now then (if nat_lt (digits_value 10 word.now) (2 ^ 64) then Some (digits_value 10 word.now) else None) else None) }
 {
     let mut value = 0u64;
-    for digit in digits {
+    for digit in word {
         match with_digit(value, *digit) {
             Some(more) => value = more,
             None => return None,
@@ -92,16 +95,19 @@ fn digits_value(digits: &[u8]) -> Option<u64>
 pub fn number(word: &[u8]) -> Option<u64>
     ensures { result ≡ number_at word.now }
 {
-    if let [digit] = word {
-        return match digit {
+    match word {
+        [] => None,
+        [digit] => match digit {
             b'0'..=b'9' => Some(u64::from(*digit - b'0')),
             _ => None,
-        };
-    }
-    if is_number(word) {
-        digits_value(word)
-    } else {
-        None
+        },
+        [first, _, ..] => {
+            if *first == b'0' {
+                None
+            } else {
+                digits_value(word)
+            }
+        }
     }
 }
 
