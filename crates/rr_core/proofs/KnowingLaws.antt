@@ -1,5 +1,6 @@
 -- What an opening knows of its disk at its beginning, and at its end.
-use Rattle.std.proofs.Common.{◌≡◌, ℕ, sym, ap, subst, ◌∙◌}
+use Rattle.std.proofs.Common.{◌≡◌, ◌<◌, ◌^◌, ℕ, length, Option, None, Some, Result, Ok, Err, IfOk, sym, ap, subst, ◌∙◌}
+use Rattle.rr_types.specs.declared.refusal.Refusal.{Refusal}
 use Rattle.rr_disk.specs.Areas.{Areas}
 use Rattle.rr_disk.specs.Crash.{IsCrashImage}
 use Rattle.rr_journal.specs.declared.journal.Journal.{Journal}
@@ -8,9 +9,12 @@ use Rattle.rr_journal.specs.OpeningStates.{OpeningState}
 use Rattle.rr_image.specs.Image.{Active}
 use Rattle.rr_image.specs.Held.{Holds}
 use Rattle.rr_image.proofs.ImageLaws.{facts_after_a_crash}
-use Rattle.rr_journal.specs.Fronts.{KnowsFronts}
+use Rattle.rr_journal.specs.declared.opening.End.{End}
+use Rattle.rr_journal.specs.declared.opening.Progress.{Progress}
+use Rattle.rr_journal.specs.StepsInPlace.{as_progress, Begins, BeginsAgain}
+use Rattle.rr_journal.specs.Fronts.{KnowsFronts, KnowsOther}
 use Rattle.rr_journal.specs.Openings.{Phase, Settling}
-use Rattle.rr_journal.specs.OpeningTable.{OpensAny}
+use Rattle.rr_journal.specs.OpeningTable.{OpensAny, ComesToAny}
 use Rattle.rr_journal.specs.OpenDisks.{IsOpenAtRest}
 use Rattle.rr_journal.specs.Phases.{phase_of}
 use Rattle.rr_core.specs.Known.{KnowsDisk, HoldSoMany}
@@ -22,6 +26,21 @@ begins_with {D} areas o n p disk nodes node same phase opens = record {
   stands = subst (λ (d : D). OpensAny o.nodes o.node o.phase (areas d)) (sym same) (subst (λ (k : ℕ). OpensAny k o.node o.phase (areas disk)) (sym nodes) (subst (λ (k : ℕ). OpensAny n k o.phase (areas disk)) (sym node) opens));
   fronts = subst (λ (q : Phase). KnowsFronts q o.fronts (areas o.disk)) (sym phase) tt;
 }
+
+-- an opening that stands at its beginning again
+begins_again : {D : Type 0} (areas : D → Areas) (o : OpeningState D) → Begins areas o → length (areas o.disk).first.cells < 2 ^ 64 → length (areas o.disk).second.cells < 2 ^ 64 → KnowsDisk areas o
+begins_again {D} areas o again few_first few_second = record {
+  stands = again.1 few_first few_second;
+  fronts = subst (λ (q : Phase). KnowsFronts q o.fronts (areas o.disk)) (sym again.0) tt;
+}
+
+-- an opening behind a step in place
+pub knows_on : {D : Type 0} (areas : D → Areas) (o : OpeningState D) (r : Result (Option End) Refusal) → BeginsAgain areas o r
+    → length (areas o.disk).first.cells < 2 ^ 64 → length (areas o.disk).second.cells < 2 ^ 64
+    → IfOk (as_progress o r) (λ (x : Progress D). ComesToAny areas x) → IfOk (as_progress o r) (λ (x : Progress D). KnowsOther areas x) → KnowsDisk areas o
+knows_on {D} areas o (Ok None) again few_first few_second comes knows = record { stands = comes; fronts = knows }
+knows_on {D} areas o (Ok (Some end)) again few_first few_second comes knows = begins_again {D = D} areas o again few_first few_second
+knows_on {D} areas o (Err e) again few_first few_second comes knows = begins_again {D = D} areas o again few_first few_second
 
 module _ {D : Type 0} (areas : D → Areas) (j : Journal D) (opened : Opened) (next : j.next ≡ opened.next) where
   -- a journal at rest goes on with the number of the next fact

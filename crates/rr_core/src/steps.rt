@@ -1,6 +1,6 @@
 //! The steps of a node's opening, one device call each.
 
-ghost use Rattle.std.specs.Prelude.{◌≡◌, ◌⊎◌, ◌≤◌, List, IfOk, IfErr};
+ghost use Rattle.std.specs.Prelude.{◌≡◌, ◌⊎◌, ◌≤◌, List, Some, Ok, IfOk, IfErr};
 ghost use Rattle.rr_types.specs.declared.fact.Fact.{Fact};
 ghost use Rattle.rr_types.specs.declared.refusal.Refusal.TheVariants.{OutOfMemory, Device};
 ghost use Rattle.rr_types.specs.Counts.{counted};
@@ -8,16 +8,19 @@ ghost use Rattle.rr_journal.specs.CrashedDisks.{MayStand, IsReading, AddsNone};
 ghost use Rattle.rr_image.specs.Held.{Holds};
 ghost use Rattle.rr_journal.specs.Fronts.{KnowsOther};
 ghost use Rattle.rr_journal.specs.OpeningCourse.{found_from, StaysOnCourse, IsRefused, IsUntouched};
-ghost use Rattle.rr_journal.specs.OpeningSteps.{MaySnap};
+ghost use Rattle.rr_journal.specs.OpeningSteps.{Steps, MaySnap};
+ghost use Rattle.rr_journal.specs.OpeningStates.{OpeningState};
+ghost use Rattle.rr_journal.specs.StepsInPlace.{journal_of, as_progress, BeginsAgain};
+ghost use Rattle.rr_model.specs.NodeStep.{started};
 ghost use Rattle.rr_journal.specs.OpeningTable.{OpensWith, ComesToAny, ComesTo, IsKept, disk_after};
 ghost use Rattle.rr_journal.specs.Phases.{phase_of};
 ghost use Rattle.rr_core.specs.Recoveries.{as_step, Recovers, StartsAtEnd, RestsAtEnd, CountsAtEnd};
 
 use crate::node_core::Core;
 use crate::opening::Opening;
-use crate::recovery::start_core;
+use crate::recovery::{measure, start_core};
 use rr_disk::Disk;
-use rr_journal::Journal;
+use rr_journal::{End, Journal};
 use rr_types::Refusal;
 use std::alloc::Global;
 
@@ -76,6 +79,59 @@ impl<D: Disk> Opening<D> {
                 }
             }
             Err(refused) => Err(refused),
+        }
+    }
+
+    /// Makes the next device call in place. At the end it gives what `close` takes. An opening that was refused, or has
+    /// found its end, would begin anew over its disk.
+    ///
+    /// # Errors
+    /// As of `step`, but memory for the core is taken by `close`.
+    pub fn step_on(&mut self, alloc: Global) -> Result<Option<End>, Refusal>
+        ensures exact { Steps D.read_gives D.write_gives D.sync_gives self.old (as_progress self.new result) }
+        ensures call { D.calls (disk_after (as_progress self.new result)) ≡ counted (D.calls self.old.disk) }
+        ensures faults { D.faults self.old.disk ≤ D.faults (disk_after (as_progress self.new result)) }
+        ensures cause { IfErr (as_progress self.new result) (λ r. IsRefused D.faults self.old.disk r) }
+        ensures tells { D.tells self.old.disk → D.tells (disk_after (as_progress self.new result)) }
+        ensures course { D.tells self.old.disk → StaysOnCourse D.areas self.old (as_progress self.new result) }
+        ensures comes { D.tells self.old.disk → IfOk (as_progress self.new result) (λ progress. ComesToAny D.areas progress) }
+        ensures untouched { D.tells self.old.disk → IsUntouched (phase_of self.old.phase) (D.areas self.old.disk) (D.areas (disk_after (as_progress self.new result))) }
+        ensures images { D.tells self.old.disk → MayStand (D.areas self.old.disk) → IsReading (phase_of self.old.phase) → AddsNone (D.areas self.old.disk) (D.areas (disk_after (as_progress self.new result))) }
+        ensures table { D.tells self.old.disk → (facts : List Fact) → OpensWith self.old.nodes self.old.node facts self.old.phase (D.areas self.old.disk)
+            → IfOk (as_progress self.new result) (λ progress. ComesTo D.areas facts progress) }
+        ensures undamaged { D.tells self.old.disk → (facts : List Fact) → OpensWith self.old.nodes self.old.node facts self.old.phase (D.areas self.old.disk)
+            → IfErr (as_progress self.new result) (λ r. (r.0 ≡ OutOfMemory) ⊎ (r.0 ≡ Device)) }
+        ensures kept { D.tells self.old.disk → (facts : List Fact) → OpensWith self.old.nodes self.old.node facts self.old.phase (D.areas self.old.disk)
+            → IsKept (Holds self.old.nodes self.old.node) facts (D.areas self.old.disk) (D.areas (disk_after (as_progress self.new result))) }
+        ensures snapshot { IfOk (as_progress self.new result) (λ progress. MaySnap progress) }
+        ensures fronts { D.tells self.old.disk → IfOk (as_progress self.new result) (λ progress. KnowsOther D.areas progress) }
+        ensures whose { (self.new.nodes ≡ self.old.nodes) × (self.new.node ≡ self.old.node) }
+        ensures again { BeginsAgain D.areas self.new result }
+    {
+        let stepped = self.journal.step_on(alloc);
+        measure(self.journal.disk());
+        stepped
+    }
+
+    /// The core that starts from the end that the last step found, and the areas of its disk. A refused start hands the
+    /// disk back.
+    ///
+    /// # Errors
+    /// `OutOfMemory`.
+    pub fn close(self, alloc: Global, end: End) -> Result<(Core, Journal<D>), (Refusal, D)>
+        requires { (old : OpeningState D) × Steps D.read_gives D.write_gives D.sync_gives old (as_progress self (Ok (Some end))) }
+        ensures ok { IfOk result (λ r. (r.0 ≡ started self.nodes self.node end.promise end.next) × (r.0.marked ≡ end.promise) × (r.1 ≡ journal_of self end)) }
+        ensures err { IfErr result (λ r. (r.0 ≡ OutOfMemory) × (r.1 ≡ self.disk)) }
+    {
+        let Opening {
+            journal,
+            nodes: _,
+            node: _,
+        } = self;
+        let (journal, opened) = journal.close(end);
+        match start_core(alloc, journal, opened) {
+            Ok((core, slots)) => Ok((core, slots)),
+            Err(wanting) => Err(wanting),
         }
     }
 }

@@ -1,4 +1,4 @@
-use Rattle.std.proofs.Common.{◌≡◌, ℕ, sym, subst}
+use Rattle.std.proofs.Common.{sym, subst}
 use Rattle.rr_journal.specs.declared.journal.Journal.{Journal}
 use Rattle.rr_journal.specs.declared.opened.Opened.{Opened}
 use Rattle.rr_journal.specs.CrashedDisks.{IsOpenWithOneOf, AddsSameAlone}
@@ -6,7 +6,6 @@ use Rattle.rr_image.specs.Held.{Holds}
 use Rattle.rr_journal.specs.OpeningTable.{IsKept}
 use Rattle.rr_journal.specs.OpenDisks.{IsOpenWith, IsReady}
 use Rattle.rr_core.proofs.KnowingLaws.{rests_so, so_many}
-use Rattle.rr_core.specs.Known.{HoldSoMany}
 use Rattle.rr_core.proofs.OpeningLaws.{found_end, numbered, stands_so}
 use Rattle.rr_core.proofs.recovery.recover.Goals as goal
 
