@@ -22,7 +22,7 @@ pub fn conclude(
     ensures ok { OnOk result (step.new ≡ stepped (conclude instance command.now) step.old) }
 {
     let number = step.next_number();
-    step.stage(Fact::Decide(instance, *command))?;
+    step.stage(&Fact::Decide(instance, *command))?;
     // Who decides tells every other node, as in the broadcast of Chandra and Toueg (1996). So a decision can spread
     // although its coordinator crashes. Decisions may be lost and aren't restated: `answer` gives one to a node that
     // asks, or sends an estimate.

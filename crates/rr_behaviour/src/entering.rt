@@ -77,7 +77,7 @@ fn enter_with(step: &mut Step<'_>, instance: Instance, estimate: Estimate) -> Re
     let to = coordinator(estimate.round(), step.nodes());
     // The estimate leaves once its round is on disk. After a crash a node that forgot it could acknowledge an earlier
     // round, although a later coordinator has counted its estimate (Aguilera, Chen and Toueg 2000).
-    step.stage(Fact::Enter(instance, estimate))?;
+    step.stage(&Fact::Enter(instance, estimate))?;
     step.owe(Body::Estimate(instance, estimate), Some(number), to)
 }
 

@@ -68,7 +68,7 @@ fn take_proposal(
     // phase 3). A further copy is only acknowledged again. The first acknowledgement may be lost, or a coordinator
     // that crashed has forgotten it (Aguilera, Chen and Toueg 2000).
     if step.stamp(instance) < round.number() {
-        step.stage(Fact::Adopt(instance, round, *command))?;
+        step.stage(&Fact::Adopt(instance, round, *command))?;
     }
     acknowledge(step, instance, round, from)
 }

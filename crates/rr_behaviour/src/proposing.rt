@@ -18,7 +18,7 @@ pub fn propose(
     ensures ok { OnOk result (step.new ≡ stepped (propose instance round command.now) step.old) }
 {
     let number = step.next_number();
-    step.stage(Fact::Propose(instance, round, *command))?;
+    step.stage(&Fact::Propose(instance, round, *command))?;
     step.owe_everyone(Body::Proposal(instance, round, *command), Some(number))?;
     Ok(())
 }

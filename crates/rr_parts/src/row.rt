@@ -1,6 +1,6 @@
 //! The row of an instance.
 
-ghost use Rattle.std.specs.Prelude.{◌≡◌, ◌-◌, ◌<◌, ◌≤◌, ◌^◌, true, None, Some, MatchOption, IfOk, IsOk, IsTrue};
+ghost use Rattle.std.specs.Prelude.{◌≡◌, ◌-◌, ◌<◌, ◌≤◌, ◌^◌, true, None, Some, MatchOption, IfOk, IsOk, IsTrue, OnOk, OnErr};
 ghost use Rattle.rr_types.specs.declared.promise.Standing.TheVariants as stands;
 ghost use Rattle.rr_types.specs.Facts.{instance_of, after_fact};
 ghost use Rattle.rr_types.specs.Standings.{round_of, IsInRound};
@@ -350,5 +350,26 @@ impl Row {
                 self.after_in_box(alloc, number, fact)
             }
         }
+    }
+
+    /// The row takes a fact about its instance on, which has this number. It is as `after` says; where memory is refused it
+    /// is as it was.
+    pub fn take_on(&mut self, alloc: Global, number: u128, fact: &Fact) -> Result<(), AllocError>
+        requires { IsInRound (Some self.old.standing) fact.now }
+        ensures ok { OnOk result ((after_fact (Some self.old.standing) fact.now ≡ Some self.new.standing) × (self.new ≡ row_after number fact.now self.new.standing self.old)) }
+        ensures err { OnErr result (self.new ≡ self.old) }
+    {
+        match fact {
+            Fact::Propose(..) | Fact::Adopt(..) => {
+                if let Form::Full(parts) = &mut self.form {
+                    parts.standing.take_on(fact);
+                    parts.backing = parts.backing.after(number, fact);
+                    return Ok(());
+                }
+            }
+            Fact::Enter(..) | Fact::Decide(..) => (),
+        }
+        *self = self.after(alloc, number, fact)?;
+        Ok(())
     }
 }

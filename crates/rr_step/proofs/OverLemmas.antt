@@ -439,3 +439,50 @@ decisions_stay (r ∷ rs) rows k i v e =
 
 pub reversed_stay : (rs rows after : List Row) → after ≡ reverse rs → KeepDecisions rs rows → listed.KeepsDecisions rows (listed.put_rows rows after)
 reversed_stay rs rows after e k = subst (listed.KeepsDecisions rows) (sym (ap (listed.put_rows rows) e ∙ put_reversed rs rows)) (decisions_stay rs rows k)
+
+-- the newest changed row is the one of its instance
+newest_there : (o : Row) (os rows : List Row) (i : ℕ) → o.instance ≡ i → row_of (put_rows (o ∷ os) rows) i ≡ Some o
+newest_there o os rows i same = row_of_put o (put_rows os rows) i ∙ (let on : eqb o.instance i ≡ true = eq-eqb _ _ same in rw on refl)
+
+-- what it is after a fact about that
+pub record Newest (k : ℕ) (f : Fact) (rs rows : List Row) (r : Row) : Type 0 where
+  pub old : Row
+  pub there : row_of (put_rows rs rows) (instance_of f) ≡ Some old
+  pub here : (get_or rs 0 old).instance ≡ r.instance
+  pub stands : after_fact (Some old.standing) f ≡ Some r.standing
+  pub is : r ≡ row_after k f r.standing old
+
+pub newest : (k : ℕ) (f : Fact) (rs rows : List Row) (o r : Row) (d : Row) → 0 < length rs → get_or rs 0 d ≡ o → o.instance ≡ instance_of f → after_fact (Some o.standing) f ≡ Some r.standing → r ≡ row_after k f r.standing o → Newest k f rs rows r
+newest k f [] rows o r d l at same stands is = absurd (omega arith)
+newest k f (p ∷ os) rows o r d l at same stands is =
+    let first : p.instance ≡ instance_of f = ap (λ (x : Row). x.instance) at ∙ same in
+    record {
+      old = o;
+      there = newest_there p os rows (instance_of f) first ∙ ap Some at;
+      here = first ∙ sym (ap (λ (x : Row). x.instance) is ∙ same);
+      stands = stands;
+      is = is;
+    }
+
+-- with it the rows are those after the fact
+pub newest_rows : (k : ℕ) (f : Fact) (rs new rows : List Row) (r : Row) → 0 < length rs → new ≡ set rs 0 r → Newest k f rs rows r → put_rows new rows ≡ rows_after k f (put_rows rs rows)
+newest_rows k f rs new rows r l e n = replaced_rows rs new r n.old l n.here e rows ∙ rows_put k f (put_rows rs rows) n.old r n.there n.stands n.is
+
+newest_keeps : (k : ℕ) (f : Fact) (rs rows : List Row) (r : Row) → Newest k f rs rows r → KeepsStanding (option_map (λ (q : Row). q.standing) (row_of (put_rows rs rows) (instance_of f))) (after_fact (option_map (λ (q : Row). q.standing) (row_of (put_rows rs rows) (instance_of f))) f) → KeepsDecision (put_rows rs rows) r
+newest_keeps k f rs rows r n h = after_keeps k f (put_rows rs rows) n.old r n.there n.stands n.is h
+
+pub newest_keep : (k : ℕ) (f : Fact) (rs new rows : List Row) (r : Row) → 0 < length rs → new ≡ set rs 0 r → Newest k f rs rows r → KeepDecisions rs rows → KeepsStanding (option_map (λ (q : Row). q.standing) (row_of (put_rows rs rows) (instance_of f))) (after_fact (option_map (λ (q : Row). q.standing) (row_of (put_rows rs rows) (instance_of f))) f) → KeepDecisions new rows
+newest_keep k f rs new rows r l e n d h = replaced_keep rs new r n.old l n.here e rows d (newest_keeps k f rs rows r n h)
+
+-- and what was decided still is
+pub newest_stay : (k : ℕ) (f : Fact) (rs new rows : List Row) (r : Row) → 0 < length rs → new ≡ set rs 0 r → Newest k f rs rows r → KeepsStanding (option_map (λ (q : Row). q.standing) (row_of (put_rows rs rows) (instance_of f))) (after_fact (option_map (λ (q : Row). q.standing) (row_of (put_rows rs rows) (instance_of f))) f) → (q : RequestNo) → list_any (has_decided q) (put_rows rs rows) ≡ true → list_any (has_decided q) (put_rows new rows) ≡ true
+newest_stay k f rs new rows r l e n h q t = ap (list_any (has_decided q)) (replaced_rows rs new r n.old l n.here e rows) ∙ decided_stay (put_rows rs rows) r q (newest_keeps k f rs rows r n h) t
+
+-- a first row that stays leaves all as it was
+pub first_stays : (rs new : List Row) (r d : Row) → 0 < length rs → get_or rs 0 d ≡ r → new ≡ set rs 0 r → new ≡ rs
+first_stays [] new r d l at e = absurd (omega arith)
+first_stays (p ∷ os) new r d l at e = e ∙ ap (λ (x : Row). x ∷ os) (sym at)
+
+pub newest_there_at : (rs rows : List Row) (i : ℕ) (o d : Row) → 0 < length rs → get_or rs 0 d ≡ o → o.instance ≡ i → row_of (put_rows rs rows) i ≡ Some o
+newest_there_at [] rows i o d l at same = absurd (omega arith)
+newest_there_at (p ∷ os) rows i o d l at same = newest_there p os rows i (ap (λ (x : Row). x.instance) at ∙ same) ∙ ap Some at

@@ -1,20 +1,23 @@
 //! The rows of a state, with those that a step has changed, the newest first.
 
-ghost use Rattle.std.specs.Prelude.{◌≡◌, ◌≤◌, ◌<◌, ◌&&◌, ◌==◌, nat_lt, IsTrue, List, None, Some, find, option_map, MatchOption, IfSome, OnOk, OnErr};
+ghost use Rattle.std.specs.Prelude.{◌≡◌, ◌≤◌, ◌<◌, ◌&&◌, ◌==◌, nat_lt, true, false, IsTrue, List, None, Some, find, option_map, MatchOption, IfSome, IfOk, OnOk, OnErr};
 ghost use Rattle.std.specs.List.{list_any};
-ghost use Rattle.rr_types.specs.Standings.{round_of};
+ghost use Rattle.rr_types.specs.declared.command.RequestNo.{RequestNo};
+ghost use Rattle.rr_types.specs.Facts.{instance_of, after_fact};
+ghost use Rattle.rr_types.specs.Standings.{round_of, IsInRound};
 ghost use Rattle.rr_types.specs.Limits.{instance_count};
 ghost use Rattle.rr_model.specs.NodeState as model;
 ghost use Rattle.rr_model.specs.NodeState.{row_of, put_row, is_decided, undecided_from, lowest_undecided};
+ghost use Rattle.rr_model.specs.NodeParts.{rows_after};
 ghost use Rattle.rr_list.specs.Rowed.{has_decided};
-ghost use Rattle.rr_step.specs.Steps.{put_rows, KeepsDecision, KeepDecisions};
+ghost use Rattle.rr_step.specs.Steps.{put_rows, KeepsDecision, KeepsStanding, KeepDecisions};
 
 use crate::rows::{find_row, has_decided_request};
 use crate::state::State;
 use rr_list::{OpenInstances, is_any_decided};
 use rr_parts::Row;
-use rr_types::{Instance, OPEN_INSTANCES, RequestNo};
-use std::alloc::AllocError;
+use rr_types::{Fact, Instance, OPEN_INSTANCES, RequestNo};
+use std::alloc::{AllocError, Global};
 
 /// The row of an instance.
 #[tactic(auto, using(crate::proofs::OverLemmas::row_changed, crate::proofs::OverLemmas::row_same))]
@@ -44,6 +47,31 @@ pub fn put_newest(changed: &mut Vec<Row>, row: Row) -> Result<(), AllocError>
     }
     changed.insert(0, row)?;
     Ok(())
+}
+
+/// The newest changed row takes a fact on, which has this number, where it is of the fact's instance. It tells whether it is.
+/// The row needs no new box then.
+pub fn change_newest(
+    base: &State,
+    changed: &mut Vec<Row>,
+    alloc: Global,
+    number: u128,
+    fact: &Fact,
+) -> Result<bool, AllocError>
+    requires round { IsInRound (option_map (λ r. r.standing) (row_of (put_rows changed.old.items base.now.rows) (instance_of fact.now))) fact.now }
+    requires keeps { KeepsStanding (option_map (λ r. r.standing) (row_of (put_rows changed.old.items base.now.rows) (instance_of fact.now))) (after_fact (option_map (λ r. r.standing) (row_of (put_rows changed.old.items base.now.rows) (instance_of fact.now))) fact.now) }
+    requires decided { KeepDecisions changed.old.items base.now.rows }
+    ensures rows { IfOk result (λ is_newest. IsTrue is_newest → put_rows changed.new.items base.now.rows ≡ rows_after number fact.now (put_rows changed.old.items base.now.rows)) }
+    ensures keep { IfOk result (λ is_newest. IsTrue is_newest → KeepDecisions changed.new.items base.now.rows) }
+    ensures stay { IfOk result (λ is_newest. IsTrue is_newest → (q : RequestNo) → list_any (has_decided q) (put_rows changed.old.items base.now.rows) ≡ true → list_any (has_decided q) (put_rows changed.new.items base.now.rows) ≡ true) }
+    ensures other { IfOk result (λ is_newest. is_newest ≡ false → changed.new.items ≡ changed.old.items) }
+    ensures kept { OnErr result (changed.new.items ≡ changed.old.items) }
+{
+    if changed.len() == 0 || changed[0].instance != fact.instance() {
+        return Ok(false);
+    }
+    changed[0].take_on(alloc, number, fact)?;
+    Ok(true)
 }
 
 /// Whether a row of this instance has decided.

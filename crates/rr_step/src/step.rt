@@ -1,6 +1,6 @@
 //! A step of a node: the node as it was before, borrowed, and what the step has changed.
 
-ghost use Rattle.std.specs.Prelude.{◌≡◌, ◌++◌, ◌∷◌, [], ◌^◌, ◌<◌, ◌&&◌, nat_lt, true, None, Some, IsTrue, option_map, MatchOption, IfOk, IfSome, OnOk};
+ghost use Rattle.std.specs.Prelude.{◌≡◌, ◌++◌, ◌∷◌, [], ◌^◌, ◌<◌, ◌&&◌, nat_lt, true, false, None, Some, IsTrue, option_map, MatchOption, IfOk, IfSome, OnOk};
 ghost use Rattle.std.specs.List.{list_any};
 ghost use Rattle.rr_types.specs.Registry.{has_request};
 ghost use Rattle.rr_types.specs.Facts.{instance_of, after_fact, decision_of};
@@ -441,9 +441,28 @@ impl<'a> Step<'a> {
         self.changes.settle(is_spent);
     }
 
-    /// The row of a fact's instance is changed by it; a decision there stays.
+    /// The newest changed row takes a fact on, where it is of the fact's instance. It tells whether it is.
+    fn change_newest(&mut self, fact: &Fact) -> Result<bool, AllocError>
+        requires round { IsInRound (standing_at self.old.state (instance_of fact.now)) fact.now }
+        requires keeps { KeepsStanding (standing_at self.old.state (instance_of fact.now)) (after_fact (standing_at self.old.state (instance_of fact.now)) fact.now) }
+        ensures newest { IfOk result (λ is_newest. IsTrue is_newest → self.new ≡ stepped (λ s. record s { rows = rows_after (next_number s) fact.now s.rows }) self.old) }
+        ensures other { IfOk result (λ is_newest. is_newest ≡ false → self.new ≡ self.old) }
+    {
+        let number = self.next_number();
+        let alloc = *self.changes.rows.allocator();
+        let base = self.base;
+        if over::change_newest(base, &mut self.changes.rows, alloc, number, fact)? {
+            self.changes.is_spent = false;
+            self.changes.is_front_spent = false;
+            self.changes.is_settled = false;
+            return Ok(true);
+        }
+        Ok(false)
+    }
+
+    /// A changed copy of the row of a fact's instance is the row from now on; a decision there stays.
     #[tactic(auto, using(crate::proofs::OverLemmas::after_keeps, crate::proofs::OverLemmas::first_keeps, crate::proofs::OverLemmas::rows_put, crate::proofs::OverLemmas::rows_begin, crate::proofs::OverLemmas::rows_stay))]
-    fn put_row_after(&mut self, fact: &Fact) -> Result<(), AllocError>
+    fn put_changed_row(&mut self, fact: &Fact) -> Result<(), AllocError>
         requires round { IsInRound (standing_at self.old.state (instance_of fact.now)) fact.now }
         requires keeps { KeepsStanding (standing_at self.old.state (instance_of fact.now)) (after_fact (standing_at self.old.state (instance_of fact.now)) fact.now) }
         ensures ok { OnOk result (self.new ≡ stepped (λ s. record s { rows = rows_after (next_number s) fact.now s.rows }) self.old) }
@@ -460,6 +479,18 @@ impl<'a> Step<'a> {
                 None => Ok(()),
             },
         }
+    }
+
+    /// The row of a fact's instance is changed by it; a decision there stays.
+    fn put_row_after(&mut self, fact: &Fact) -> Result<(), AllocError>
+        requires round { IsInRound (standing_at self.old.state (instance_of fact.now)) fact.now }
+        requires keeps { KeepsStanding (standing_at self.old.state (instance_of fact.now)) (after_fact (standing_at self.old.state (instance_of fact.now)) fact.now) }
+        ensures ok { OnOk result (self.new ≡ stepped (λ s. record s { rows = rows_after (next_number s) fact.now s.rows }) self.old) }
+    {
+        if self.change_newest(fact)? {
+            return Ok(());
+        }
+        self.put_changed_row(fact)
     }
 
     /// The request number of a decision is taken out of the pool.
@@ -523,12 +554,11 @@ impl<'a> Step<'a> {
 
     /// Stages a fact about an instance; a decision there stays.
     #[tactic(auto, using(crate::proofs::OverLemmas::decision_decides), unfolding(rr_model::specs::NodeParts::stage))]
-    pub fn stage(&mut self, fact: Fact) -> Result<(), AllocError>
-        requires round { IsInRound (standing_at self.old.state (instance_of fact)) fact }
-        requires keeps { KeepsStanding (standing_at self.old.state (instance_of fact)) (after_fact (standing_at self.old.state (instance_of fact)) fact) }
-        ensures ok { OnOk result (self.new ≡ stepped (stage fact) self.old) }
+    pub fn stage(&mut self, fact: &Fact) -> Result<(), AllocError>
+        requires round { IsInRound (standing_at self.old.state (instance_of fact.now)) fact.now }
+        requires keeps { KeepsStanding (standing_at self.old.state (instance_of fact.now)) (after_fact (standing_at self.old.state (instance_of fact.now)) fact.now) }
+        ensures ok { OnOk result (self.new ≡ stepped (stage fact.now) self.old) }
     {
-        let fact = &fact;
         let is_spent = self.stays_spent(fact);
         self.put_row_after(fact)?;
         self.take_decided(fact)?;
