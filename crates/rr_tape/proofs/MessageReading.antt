@@ -1,5 +1,5 @@
 -- Messages and replies: what is read is printed so, and what is printed is read again.
-use Rattle.std.proofs.Common.{◌≡◌, ℕ, ◌^◌, ◌<◌, ◌≤◌, cond, ltb, leb, ◌&&◌, List, [], ◌∷◌, ◌++◌, Option, None, Some, codes, decimal, refl, ap, subst, ◌∙◌, sym, arith, inl, inr}
+use Rattle.std.proofs.Common.{◌≡◌, ℕ, ◌^◌, ◌<◌, ◌≤◌, false, cond, ltb, leb, ◌&&◌, List, [], ◌∷◌, ◌++◌, Option, None, Some, codes, decimal, refl, ap, subst, ◌∙◌, sym, arith, inl, inr}
 use Rattle.std.specs.List.{AllByRecursion}
 use Rattle.std.specs.Str.{bytes_eq}
 use Rattle.std.proofs.lemmas.Option.{same_Some, cond_some}
@@ -15,7 +15,7 @@ use Rattle.rr_text.specs.ReportTexts.{request_text, command_words, body_words, m
 use Rattle.rr_text.specs.Reading.{◌>>=◌, cut_at, find_by, small_at, number_at, op_at, message_kind_at}
 use Rattle.rr_text.proofs.CutLemmas.{AtLeast, AtLeast-append, bind_some, cut_again, cut_takes, plain_by_test}
 use Rattle.rr_text.proofs.NumberLemmas.{number_again, number_takes, small_again, small_takes, decimal_plain, decimal_high}
-use Rattle.rr_text.proofs.WordReading.{chosen, same_text}
+use Rattle.rr_text.proofs.WordReading.{chosen, same_text, other_text}
 use Rattle.rr_text.proofs.OpReading.{find_takes, op_again, op_takes}
 use Rattle.rr_text.proofs.EventReading.{joined, low, spaced_op, op_plain}
 use Rattle.rr_types.specs.declared.message.MessageKind.{MessageKind}
@@ -167,6 +167,16 @@ body_from_takes n t (Some w) b few cut e =
 
 body_of : (n : ℕ) (k : MessageKind) (t : List ℕ) (b : Body) → body_fields_at n k t ≡ Some b → body_at n (message_word k ++ 32 ∷ t) ≡ Some b
 body_of n k t b given = rw (cut_again 32 33 (message_word k) t (omega arith) (kind_plain k), kind_again k) given
+
+-- where a text begins with the word of a kind and a space, the fields stand behind them
+pub kind_known : (n : ℕ) (k : MessageKind) (t : List ℕ) → body_at n (message_word k ++ 32 ∷ t) ≡ body_fields_at n k t
+kind_known n k t = rw (cut_again 32 33 (message_word k) t (omega arith) (kind_plain k), kind_again k) refl
+
+-- a text with a space is no word, so one without a kind says nothing
+pub kind_unknown : (n : ℕ) (text w rest : List ℕ) → cut_at 32 text ≡ Some (w, rest) → message_kind_at w ≡ None → body_at n text ≡ body_from 0 text None
+kind_unknown n text w rest cut unknown =
+    let other : bytes_eq text (codes "beat") ≡ false = other_text text (codes "beat") (λ is. let none : None ≡ Some (w, rest) = ap (cut_at 32) (sym is) ∙ cut in cc) in
+    rw (cut, unknown, other) refl
 
 body_again : (n : ℕ) (b : Body) → n ≤ 7 → IsBody n b → body_at n (body_text b) ≡ Some b
 body_again n (bodies.Estimate i e) few h = body_of n Estimate (decimal i ++ 32 ∷ estimate_words e) (bodies.Estimate i e) (rw (estimated_text.again (i, e) h) refl)

@@ -3,7 +3,8 @@
 //! What such a line gives is large, and each call that passes it on copies it, as does each value that may be none. So it is
 //! made at once, where all its words have been read, in a function for each kind of messages.
 
-ghost use Rattle.std.specs.Prelude.{◌≡◌, ℕ, None, Some, false, MatchOption, IfOk, IfErr};
+ghost use Rattle.std.specs.Prelude.{◌≡◌, ℕ, ◌++◌, ◌∷◌, None, Some, false, MatchOption, IfSome, IfOk, IfErr};
+ghost use Rattle.rr_types.specs.Messages.{message_word};
 ghost use Rattle.rr_tape.specs.Reading.{sent_as, sent_at, has_command, round_of_at, body_fields_at, body_from, body_at};
 
 use crate::message_read::{command, estimate, instance, round};
@@ -210,6 +211,81 @@ fn said_in_a_word<'a>(
     Ok(Some((saying(heading, Body::Beat), rest)))
 }
 
+// The kind of a message whose text begins with its word and a space, and the text behind these, for the kinds that most
+// messages have. Such a word is matched whole, so that none of its bytes is searched for a space.
+fn front(text: &[u8]) -> Option<(MessageKind, &[u8])>
+    ensures { IfSome result (λ x. text.now ≡ message_word x.0 ++ 32 ∷ x.1.now) }
+{
+    match text {
+        [b'a', b'c', b'k', b' ', fields @ ..] => Some((MessageKind::Ack, fields)),
+        [b'r', b'e', b'q', b'u', b'e', b's', b't', b' ', fields @ ..] => Some((
+            MessageKind::Request,
+            fields,
+        )),
+        [
+            b'p',
+            b'r',
+            b'o',
+            b'p',
+            b'o',
+            b's',
+            b'a',
+            b'l',
+            b' ',
+            fields @ ..,
+        ] => Some((MessageKind::Proposal, fields)),
+        _ => other_front(text),
+    }
+}
+
+// The same for two more kinds.
+fn other_front(text: &[u8]) -> Option<(MessageKind, &[u8])>
+    ensures { IfSome result (λ x. text.now ≡ message_word x.0 ++ 32 ∷ x.1.now) }
+{
+    match text {
+        [
+            b'd',
+            b'e',
+            b'c',
+            b'i',
+            b's',
+            b'i',
+            b'o',
+            b'n',
+            b' ',
+            fields @ ..,
+        ] => Some((MessageKind::Decision, fields)),
+        [
+            b'e',
+            b's',
+            b't',
+            b'i',
+            b'm',
+            b'a',
+            b't',
+            b'e',
+            b' ',
+            fields @ ..,
+        ] => Some((MessageKind::Estimate, fields)),
+        _ => None,
+    }
+}
+
+// The kind of a message, and the text behind its word and a space; none where the message is one word, or has no such kind.
+#[tactic(auto, using(crate::proofs::MessageReading::kind_known, crate::proofs::MessageReading::kind_unknown))]
+fn kind_and_fields(text: &[u8]) -> Option<(MessageKind, &[u8])>
+    ensures { (n : ℕ) → MatchOption result (body_at n text.now ≡ body_from 0 text.now None) (λ x. body_at n text.now ≡ body_fields_at n x.0 x.1.now) }
+{
+    if let Some((kind, fields)) = front(text) {
+        return Some((kind, fields));
+    }
+    let (word, fields) = cut(text, b' ')?;
+    match message_kind(word) {
+        Some(kind) => Some((kind, fields)),
+        None => None,
+    }
+}
+
 /// The event of a line on a message that was sent, whose words behind the keyword these are, and the bytes behind it.
 ///
 /// # Errors
@@ -228,15 +304,12 @@ pub fn sent_line<'a>(
     let Some((heading, words)) = read_heading(nodes, text) else {
         return Err(Refusal::BadEvent(line));
     };
-    let Some((word, fields)) = cut(words, b' ') else {
-        return said_in_a_word(heading, words, rest, line);
-    };
-    match message_kind(word) {
-        Some(MessageKind::Estimate) => estimated(heading, fields, rest, line),
-        Some(MessageKind::Proposal) => proposed(heading, fields, rest, line),
-        Some(MessageKind::Decision) => decided(heading, fields, rest, line),
-        Some(MessageKind::Request) => requested(heading, fields, rest, line),
-        Some(kind) => said_shortly(nodes, heading, kind, fields, rest, line),
-        None => Err(Refusal::BadEvent(line)),
+    match kind_and_fields(words) {
+        Some((MessageKind::Estimate, fields)) => estimated(heading, fields, rest, line),
+        Some((MessageKind::Proposal, fields)) => proposed(heading, fields, rest, line),
+        Some((MessageKind::Decision, fields)) => decided(heading, fields, rest, line),
+        Some((MessageKind::Request, fields)) => requested(heading, fields, rest, line),
+        Some((kind, fields)) => said_shortly(nodes, heading, kind, fields, rest, line),
+        None => said_in_a_word(heading, words, rest, line),
     }
 }
