@@ -11,4 +11,4 @@ pub mod TakenLemmas
 pub mod CoveredLemmas
 pub mod MarkOfLemmas
 mod KnowingLaws
-mod OpeningLaws
+pub mod OpeningLaws
