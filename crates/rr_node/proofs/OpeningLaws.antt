@@ -17,6 +17,9 @@ use Rattle.rr_journal.specs.OpeningStates.{OpeningState}
 use Rattle.rr_journal.specs.declared.opening.Phase as code
 use Rattle.rr_journal.specs.declared.opening.Phase.TheVariants as step
 use Rattle.rr_journal.specs.declared.opened.Opened.{Opened}
+use Rattle.rr_journal.specs.declared.opening.End.{End}
+use Rattle.rr_journal.specs.Fronts.{KnowsOther}
+use Rattle.rr_journal.specs.StepsInPlace.{journal_of, opened_of}
 use Rattle.rr_journal.specs.declared.opening.Progress as of_journal
 use Rattle.rr_journal.specs.declared.opening.Progress.TheVariants as of_journal_is
 use Rattle.rr_journal.specs.declared.stage.Stage.{Stage}
@@ -26,7 +29,7 @@ use Rattle.rr_image.specs.Image.{Content, Found, Unformatted, Broken, Active, Ou
 use Rattle.rr_journal.specs.Openings.{Phase, Settling, ReadingFirst, ReadingSecond, Rewriting, After, Goes, Opens, Stops, Done, Refused, bytes_in, migrate_calls, due_call, after_found, end_by, after_opening_call}
 use Rattle.rr_image.specs.Migration.{migrated, may_migrate}
 use Rattle.rr_journal.specs.Phases.{phase_of, TakesMemory}
-use Rattle.rr_journal.specs.OpeningSteps.{Steps}
+use Rattle.rr_journal.specs.OpeningSteps.{Steps, MaySnap}
 use Rattle.rr_journal.specs.OpeningTable.{OpensAny}
 use Rattle.rr_journal.specs.Stages.{calls_from}
 use Rattle.rr_journal.specs.OtherAreas.{other_area, IsOtherKnown}
@@ -41,7 +44,8 @@ use Rattle.rr_node.specs.declared.event.Outcome.{Outcome}
 use Rattle.rr_node.specs.declared.event.Outcome.TheVariants.{Quiet}
 use Rattle.rr_node.specs.Seats as seats
 use Rattle.rr_node.specs.Seats.{Seat, Answer, Gives, Fails, called, read_by, opens_on, seat_step, starve_end, starve_opening}
-use Rattle.rr_node.specs.Views.{NodeDisk, areas_in, seat_of, IsOpened, IsSteady, Serves, Carries, CarriesFailing}
+use Rattle.rr_node.specs.Views.{NodeDisk, areas_in, seat_of, IsOpened, IsSteady, Serves, closed, Ended, Carries, CarriesFailing}
+use Rattle.rr_core.proofs.OpeningLaws.{ended, starts, last_whose, last_stands, stands_so}
 use Rattle.rr_node.proofs.FrontLaws.{ends_appending}
 use Rattle.rr_node.proofs.DiskLaws.{passed_on, starved_falls, call_fails}
 
@@ -297,6 +301,37 @@ opens_stopped n p o e new (inr (j, ending, steps, is)) count other h =
     let wanting = wanting_memory e new j is in
     let end = starved_end n p o j ending steps (ap (λ (d : NodeDisk). d.calls) (sym wanting.1) ∙ count) h in
     rw (wanting.0, wanting.1) (inr (sym end.0), end.1)
+
+-- a node that opens has one opening
+pub one_opening : (o other : OpeningState NodeDisk) → does.Opening o ≡ does.Opening other → o ≡ other
+one_opening o other same = cc
+
+-- what the closing of an opening gives: the node starts to serve
+pub closes_served : (n p : ℕ) (old o : OpeningState NodeDisk) (end : End) (core : NodeState) (slots : Journal NodeDisk) (answer : Result Outcome Refusal) (new : doing.Doing) → Ended old o end
+    → (core ≡ started o.nodes o.node end.promise end.next) × (core.marked ≡ end.promise) × (slots ≡ journal_of o end) → Serves n p core slots answer new → Carries n p at.Device (does.Opening old) answer new
+closes_served n p old o end core slots answer new ended_so made serves =
+    let j : Journal NodeDisk = journal_of o end in
+    let e : Opened = opened_of o end in
+    let whose = last_whose {D = NodeDisk} (FailingRead MemoryRead) (FailingWrite MemoryWrite) (FailingSync MemorySync) areas_in old j e ended_so.steps in
+    let done : closed o end ≡ of_journal_is.Done slots (end_of core slots) = ended {D = NodeDisk} j slots e core made.2 made.1 whose.2 whose.3 whose.4 in
+    opens_done n p old core slots answer new
+    (inl (subst (λ (x : of_journal.Progress NodeDisk). Stepped old (Ok x)) done ended_so.steps))
+    (starts {D = NodeDisk} j slots e core made.0 made.2 made.1 whose.2 whose.3 whose.4)
+    (stands_so {D = NodeDisk} areas_in j slots e.promise core made.2 made.1
+    (last_stands {D = NodeDisk} (FailingRead MemoryRead) (FailingWrite MemoryWrite) (FailingSync MemorySync) areas_in old (closed o end) j e refl ended_so.steps ended_so.comes))
+    (subst (λ (x : of_journal.Progress NodeDisk). KnowsOther {D = NodeDisk} areas_in x) done ended_so.knows)
+    (subst (λ (x : of_journal.Progress NodeDisk). MaySnap {D = NodeDisk} x) done ended_so.snaps)
+    (ap (λ (k : Journal NodeDisk). k.disk.calls) made.2 ∙ ended_so.calls) serves
+
+-- or memory is wanting for its core, and it is down
+pub closes_wanting : (n p : ℕ) (old o : OpeningState NodeDisk) (end : End) (e : Refusal) (disk : NodeDisk) → Ended old o end → (e ≡ because.OutOfMemory) × (disk ≡ o.disk) → Carries n p at.Device (does.Opening old) (Err e) (does.Stopped disk)
+closes_wanting n p old o end e disk ended_so wanting =
+    opens_stopped n p old e disk (inr (journal_of o end, opened_of o end, ended_so.steps, λ i. Err (wanting.0 i, wanting.1 i)))
+    (ap (λ (d : NodeDisk). d.calls) wanting.1 ∙ ended_so.calls)
+    (λ device. memory_device (sym wanting.0 ∙ device))
+  where
+    memory_device : because.OutOfMemory ≢ because.Device
+    memory_device x = cc
 
 -- the device call that is due in an opening fails
 pub opens_failing : (n p : ℕ) (fill : List ℕ) (o : OpeningState NodeDisk) (new : NodeDisk) → Unmade (due_call (phase_of o.phase)) (record o.disk { due = Some fill }) because.Device new

@@ -1,8 +1,7 @@
 -- The events of a node that is up, in the world: inputs, sends, acknowledgements, the taking up and the marking of a group.
-use Rattle.std.proofs.Common.{◌≡◌, ◌⊎◌, inl, inr, ℕ, ◌<◌, Bool, true, false, ◌==◌, eq-eqb, List, [], ◌∷◌, ◌++◌, length, map, append-nil, Contains, Option, None, Some, Ok, Err, refl, sym, ap, subst, ◌∙◌, if◌then◌else◌}
+use Rattle.std.proofs.Common.{◌≡◌, ◌⊎◌, inl, inr, ℕ, Bool, true, false, ◌==◌, eq-eqb, List, [], ◌∷◌, ◌++◌, length, map, append-nil, Contains, Option, None, Some, Ok, Err, refl, sym, ap, subst, ◌∙◌, if◌then◌else◌}
 use Rattle.std.specs.Option.{option_map_or}
 use Rattle.std.proofs.lemmas.List.Elements.{Contains-push_cases}
-use Rattle.rr_types.specs.declared.command.Command.{Command}
 use Rattle.rr_types.specs.declared.command.RequestNo.{RequestNo}
 use Rattle.rr_types.specs.declared.command.Reply.{Reply}
 use Rattle.rr_types.specs.declared.fact.Fact.{Fact}

@@ -5,8 +5,9 @@ use Rattle.rr_types.specs.declared.refusal.Refusal.TheVariants.{OutOfMemory, Dev
 use Rattle.rr_model.specs.NodeState.{NodeState}
 use Rattle.rr_model.specs.NodeStep.{running_group, started}
 use Rattle.rr_disk.specs.Areas.{Areas}
-use Rattle.rr_disk.specs.Failing.{FailingState}
-use Rattle.rr_disk.specs.Memory.{MemoryState}
+use Rattle.rr_types.specs.Counts.{counted}
+use Rattle.rr_disk.specs.Failing.{FailingState, FailingRead, FailingWrite, FailingSync}
+use Rattle.rr_disk.specs.Memory.{MemoryState, MemoryRead, MemoryWrite, MemorySync}
 use Rattle.rr_frame.specs.GroupFormat.{group_bytes, IsLawfulGroup}
 use Rattle.rr_frame.specs.Snapshots.{IsSnapshot}
 use Rattle.rr_frame.specs.SnapshotFormat.{snapshot_bytes, IsLawfulSnapshot}
@@ -14,7 +15,15 @@ use Rattle.rr_journal.specs.Flushes as gate
 use Rattle.rr_journal.specs.declared.journal.Journal.{Journal}
 use Rattle.rr_journal.specs.Calls.{Write, Sync, frame_bytes}
 use Rattle.rr_journal.specs.OtherAreas.{other_area, closes_in, IsOtherKnown}
-use Rattle.rr_journal.specs.OpeningTable.{OpensAny}
+use Rattle.rr_journal.specs.declared.opening.End.{End}
+use Rattle.rr_journal.specs.declared.opening.Progress.{Progress}
+use Rattle.rr_journal.specs.declared.opening.Progress.TheVariants.{Done}
+use Rattle.rr_journal.specs.Fronts.{KnowsOther}
+use Rattle.rr_journal.specs.OpeningStates.{OpeningState}
+use Rattle.rr_journal.specs.OpeningSteps as last
+use Rattle.rr_journal.specs.OpeningSteps.{Steps}
+use Rattle.rr_journal.specs.OpeningTable.{OpensAny, ComesToAny}
+use Rattle.rr_journal.specs.StepsInPlace.{journal_of, opened_of}
 use Rattle.rr_journal.specs.Phases.{phase_of}
 use Rattle.rr_journal.specs.declared.stage.Stage.TheVariants as stage
 use Rattle.rr_journal.specs.Stages.{calls_from}
@@ -217,6 +226,26 @@ Serves n p core j answer new =
     (given ≡ serves j.area (record { epoch = j.epoch; promise = core.marked; next = j.next; gate = j.gate }) (seat_of n p (does.Stopped j.disk)))
     ⊎ (given ≡ (Err OutOfMemory, seat_of n p (does.Stopped j.disk))))
     × IsSteady n p new
+
+-- an opening that found this end, closed: its journal, and the end of the opening
+abbrev pub closed : OpeningState NodeDisk → End → Progress NodeDisk
+closed o end = Done (journal_of o end) (opened_of o end)
+
+-- the last step of an opening, from the first of these, left the second with this end
+pub record Ended (old o : OpeningState NodeDisk) (end : End) : Type 0 where
+  pub steps : Steps (FailingRead MemoryRead) (FailingWrite MemoryWrite) (FailingSync MemorySync) old (Ok (closed o end))
+  pub comes : ComesToAny areas_in (closed o end)
+  pub knows : KnowsOther areas_in (closed o end)
+  pub snaps : last.MaySnap (closed o end)
+  pub calls : o.disk.calls ≡ counted old.disk.calls
+
+-- some last step did
+abbrev pub HasEnded : OpeningState NodeDisk → End → Type 0
+HasEnded o end = (old : OpeningState NodeDisk) × Ended old o end
+
+-- what comes then carries out the device call of that step
+abbrev pub Closes : OpeningState NodeDisk → End → Result Outcome Refusal → code.Doing → Type 0
+Closes o end answer new = (n p : ℕ) (old : OpeningState NodeDisk) → Ended old o end → Carries n p at.Device (does.Opening old) answer new
 
 -- a report tells nothing of an input that was taken
 abbrev pub quiet : Result (Unit {0}) Refusal → Result Outcome Refusal

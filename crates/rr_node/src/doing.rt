@@ -5,20 +5,21 @@ ghost use Rattle.rr_types.specs.Registry.{registry_of};
 ghost use Rattle.rr_model.specs.NodeState.{decided_prefix};
 ghost use Rattle.rr_types.specs.declared.refusal.Refusal.TheVariants.{Device};
 ghost use Rattle.rr_journal.specs.Openings.{Settling};
+ghost use Rattle.rr_journal.specs.OpeningStates.{OpeningState};
 ghost use Rattle.rr_node.specs.Seats as seats;
 ghost use Rattle.rr_node.specs.Seats.{crashed, seat_step};
 ghost use Rattle.rr_types.specs.declared.event.NodeEvent.{NodeEvent};
 ghost use Rattle.rr_types.specs.declared.message.Message.{Message};
 ghost use Rattle.rr_node.specs.declared.serving.Serving.{Serving};
 ghost use Rattle.rr_node.specs.Stances.{event_of, is_plain, is_quiet, refusal_at};
-ghost use Rattle.rr_node.specs.Views.{NodeDisk, Carries, CarriesFailing, CarriesQuietly, Serves, IsServing, IsSteady, Takes, areas_of, calls_of, doing_of, due_of, seat_of};
+ghost use Rattle.rr_node.specs.Views.{NodeDisk, Carries, CarriesFailing, CarriesQuietly, HasEnded, Closes, Serves, IsServing, IsSteady, Takes, areas_of, calls_of, doing_of, due_of, seat_of};
 
 use crate::event::{Act, BoundNames, Outcome};
 use crate::serving::Serving;
 use core::mem::replace_with;
-use rr_core::{Core, Opening, Progress};
+use rr_core::{Core, Opening};
 use rr_disk::{FailingDisk, MemDisk};
-use rr_journal::Journal;
+use rr_journal::{End, Journal};
 use rr_types::{Message, NodeEvent, NodeId, Nodes, Refusal};
 use std::alloc::{AllocError, Global};
 
@@ -58,6 +59,7 @@ impl Doing {
         ensures due { result.due ≡ due_of self }
         ensures calls { result.calls ≡ calls_of self }
         ensures serving { (s : Serving) → self ≡ Doing.Serving s → result ≡ s.slots.disk }
+        ensures opening { (o : OpeningState NodeDisk) → self ≡ Doing.Opening o → result ≡ o.disk }
     {
         match self {
             Doing::Stopped(disk) => disk,
@@ -194,7 +196,8 @@ pub fn go_on(
             NodeEvent::Acknowledge => serving.reply(),
             _ => go_on_up(alloc, doing, event),
         },
-        _ => open_further(alloc, nodes, node, doing),
+        Doing::Opening(_) => open_on(alloc, doing),
+        _ => start_up(nodes, node, doing),
     }
 }
 
@@ -215,57 +218,50 @@ fn go_on_up(
     }
 }
 
-/// An event that a node takes that isn't up.
-fn open_further(
-    alloc: Global,
-    nodes: Nodes,
-    node: NodeId,
-    doing: &mut Doing,
-) -> Result<Outcome, Refusal>
+/// By an event that it takes, a node that is down or has failed begins an opening.
+fn start_up(nodes: Nodes, node: NodeId, doing: &mut Doing) -> Result<Outcome, Refusal>
     requires exists { node < nodes }
-    requires waits { (s : Serving) → doing.old ≢ Doing.Serving s }
+    requires down { (s : Serving) → doing.old ≢ Doing.Serving s }
+    requires waits { (o : OpeningState NodeDisk) → doing.old ≢ Doing.Opening o }
     ensures { (event : NodeEvent Message) → Takes event (doing_of doing.old) → Carries nodes node event doing.old result doing.new }
 {
     replace_with(
         doing,
         (),
         |doing, _| -> (Doing, Result<Outcome, Refusal>)
-            requires { (node < nodes) × ((s : Serving) → doing ≢ Doing.Serving s) }
+            requires { (node < nodes) × ((s : Serving) → doing ≢ Doing.Serving s) × ((o : OpeningState NodeDisk) → doing ≢ Doing.Opening o) }
             ensures { (event : NodeEvent Message) → Takes event (doing_of doing) → Carries nodes node event doing result.1 result.0 }
-        { open_up(alloc, nodes, node, doing) },
+        { open_up(nodes, node, doing) },
     )
 }
 
 /// A device call has failed: the node has failed too.
 fn fall(doing: &mut Doing)
-    ensures { (s : Serving) → doing.old ≡ Doing.Serving s → doing.new ≡ Doing.Faulted s.slots.disk }
+    ensures serving { (s : Serving) → doing.old ≡ Doing.Serving s → doing.new ≡ Doing.Faulted s.slots.disk }
+    ensures opening { (o : OpeningState NodeDisk) → doing.old ≡ Doing.Opening o → doing.new ≡ Doing.Faulted o.disk }
 {
     replace_with(
         doing,
         (),
         |doing, _| -> (Doing, ())
-            ensures { (s : Serving) → doing ≡ Doing.Serving s → result.0 ≡ Doing.Faulted s.slots.disk }
+            ensures serving { (s : Serving) → doing ≡ Doing.Serving s → result.0 ≡ Doing.Faulted s.slots.disk }
+            ensures opening { (o : OpeningState NodeDisk) → doing ≡ Doing.Opening o → result.0 ≡ Doing.Faulted o.disk }
         { (Doing::Faulted(doing.into_disk()), ()) },
     )
 }
 
-/// By an event that it takes, a node that is down or has failed begins an opening, and one that opens continues it.
-fn open_up(
-    alloc: Global,
-    nodes: Nodes,
-    node: NodeId,
-    doing: Doing,
-) -> (Doing, Result<Outcome, Refusal>)
+/// The same of a node that is taken and given back.
+fn open_up(nodes: Nodes, node: NodeId, doing: Doing) -> (Doing, Result<Outcome, Refusal>)
     requires exists { node < nodes }
-    requires waits { (s : Serving) → doing ≢ Doing.Serving s }
+    requires down { (s : Serving) → doing ≢ Doing.Serving s }
+    requires waits { (o : OpeningState NodeDisk) → doing ≢ Doing.Opening o }
     ensures { (event : NodeEvent Message) → Takes event (doing_of doing) → Carries nodes node event doing result.1 result.0 }
 {
     match doing {
         Doing::Stopped(disk) => (restart(nodes, node, disk), Ok(Outcome::Quiet)),
         Doing::Faulted(disk) => (restart(nodes, node, disk), Ok(Outcome::Quiet)),
-        Doing::Opening(opening) => open_on(alloc, opening),
-        Doing::Serving(serving) => {
-            drop(serving.into_disk());
+        _ => {
+            drop(doing.into_disk());
             unreachable!()
         }
     }
@@ -342,7 +338,8 @@ pub fn crash(doing: &mut Doing, cut_first: u64, cut_second: u64, fill: &[u8])
 
 /// Whatever runs is given up: the node is down.
 fn stop(doing: &mut Doing)
-    ensures { (disk : NodeDisk) × (doing.new ≡ Doing.Stopped disk) × (disk.below.areas ≡ areas_of doing.old) × (disk.due ≡ due_of doing.old) × (disk.calls ≡ calls_of doing.old) }
+    ensures down { (disk : NodeDisk) × (doing.new ≡ Doing.Stopped disk) × (disk.below.areas ≡ areas_of doing.old) × (disk.due ≡ due_of doing.old) × (disk.calls ≡ calls_of doing.old) }
+    ensures opening { (o : OpeningState NodeDisk) → doing.old ≡ Doing.Opening o → doing.new ≡ Doing.Stopped o.disk }
 {
     match doing {
         Doing::Stopped(_) => (),
@@ -350,25 +347,63 @@ fn stop(doing: &mut Doing)
             doing,
             (),
             |doing, _| -> (Doing, ())
-                ensures { (disk : NodeDisk) × (result.0 ≡ Doing.Stopped disk) × (disk.below.areas ≡ areas_of doing) × (disk.due ≡ due_of doing) × (disk.calls ≡ calls_of doing) }
+                ensures down { (disk : NodeDisk) × (result.0 ≡ Doing.Stopped disk) × (disk.below.areas ≡ areas_of doing) × (disk.due ≡ due_of doing) × (disk.calls ≡ calls_of doing) }
+                ensures opening { (o : OpeningState NodeDisk) → doing ≡ Doing.Opening o → result.0 ≡ Doing.Stopped o.disk }
             { (Doing::Stopped(doing.into_disk()), ()) },
         ),
     }
 }
 
-/// The next device call of an opening.
-fn open_on(alloc: Global, opening: Opening<NodeDisk>) -> (Doing, Result<Outcome, Refusal>)
-    ensures { (n p : ℕ) → Carries n p NodeEvent.Device (Doing.Opening opening) result.1 result.0 }
+/// The next device call of an opening, which stays in its place until it ends.
+fn open_on(alloc: Global, doing: &mut Doing) -> Result<Outcome, Refusal>
+    requires { (o : OpeningState NodeDisk) × (doing.old ≡ Doing.Opening o) }
+    ensures { (n p : ℕ) → Carries n p NodeEvent.Device doing.old result doing.new }
 {
-    match opening.step(alloc) {
-        Ok(Progress::More(opening)) => (Doing::Opening(opening), Ok(Outcome::Quiet)),
-        Ok(Progress::Done(core, slots)) => serve(alloc, core, slots),
-        Err((refusal, disk)) => {
-            if is_device(refusal) {
-                (Doing::Faulted(disk), Err(refusal))
-            } else {
-                (Doing::Stopped(disk), Err(refusal))
+    match doing {
+        Doing::Opening(opening) => match opening.step_on(alloc) {
+            Ok(None) => Ok(Outcome::Quiet),
+            Ok(Some(end)) => close(alloc, doing, end),
+            Err(refusal) => {
+                if is_device(refusal) {
+                    fall(doing);
+                } else {
+                    stop(doing);
+                }
+                Err(refusal)
             }
+        },
+        _ => unreachable!(),
+    }
+}
+
+/// An opening ends, whose last step found this end.
+fn close(alloc: Global, doing: &mut Doing, end: End) -> Result<Outcome, Refusal>
+    requires { (o : OpeningState NodeDisk) × (doing.old ≡ Doing.Opening o) × HasEnded o end }
+    ensures { (o : OpeningState NodeDisk) → doing.old ≡ Doing.Opening o → Closes o end result doing.new }
+{
+    replace_with(
+        doing,
+        end,
+        |doing, end| -> (Doing, Result<Outcome, Refusal>)
+            requires { (o : OpeningState NodeDisk) × (doing ≡ Doing.Opening o) × HasEnded o end }
+            ensures { (o : OpeningState NodeDisk) → doing ≡ Doing.Opening o → Closes o end result.1 result.0 }
+        { close_up(alloc, doing, end) },
+    )
+}
+
+/// The same of a node that is taken and given back.
+fn close_up(alloc: Global, doing: Doing, end: End) -> (Doing, Result<Outcome, Refusal>)
+    requires { (o : OpeningState NodeDisk) × (doing ≡ Doing.Opening o) × HasEnded o end }
+    ensures { (o : OpeningState NodeDisk) → doing ≡ Doing.Opening o → Closes o end result.1 result.0 }
+{
+    match doing {
+        Doing::Opening(opening) => match opening.close(alloc, end) {
+            Ok((core, slots)) => serve(alloc, core, slots),
+            Err((refusal, disk)) => (Doing::Stopped(disk), Err(refusal)),
+        },
+        _ => {
+            drop(doing.into_disk());
+            unreachable!()
         }
     }
 }

@@ -13,4 +13,4 @@ returns-in-Ok c n p =
 pub returns-in-Err : goal.returns-in-Err
 returns-in-Err c n p =
     let left = c.flush_on.new.self in
-    carried n p at.Device at.Device c.args.doing.now (does.Serving c.in-Serving.serving) c.fall.new.doing (does.Faulted left.slots.disk) (Err c.in-Err.refusal) refl c.in-Serving.is (c.fall.ensures left refl) (c.in-Err.ensures.err n p)
+    carried n p at.Device at.Device c.args.doing.now (does.Serving c.in-Serving.serving) c.fall.new.doing (does.Faulted left.slots.disk) (Err c.in-Err.refusal) refl c.in-Serving.is (c.fall.ensures.serving left refl) (c.in-Err.ensures.err n p)

@@ -1,38 +1,48 @@
-use Rattle.std.proofs.Common.{◌≡◌, true, false, Ok, sym, subst, ◌∙◌}
+use Rattle.std.proofs.Common.{◌≡◌, true, false, inl, Option, Ok, Err, refl, sym, subst, ◌∙◌}
 use Rattle.std.specs.Prelude.{IfOk}
 use Rattle.rr_types.specs.Counts.{counted}
-use Rattle.rr_journal.specs.declared.opening.Progress as journal
-use Rattle.rr_journal.specs.OpeningSteps.{MaySnap}
+use Rattle.rr_types.specs.declared.event.NodeEvent.TheVariants as at
+use Rattle.rr_disk.specs.Failing.{FailingRead, FailingWrite, FailingSync}
+use Rattle.rr_disk.specs.Memory.{MemoryRead, MemoryWrite, MemorySync}
+use Rattle.rr_journal.specs.declared.opening.End.{End}
+use Rattle.rr_journal.specs.declared.opening.Progress.{Progress}
 use Rattle.rr_journal.specs.Fronts.{KnowsOther}
+use Rattle.rr_journal.specs.OpeningSteps.{Steps, MaySnap}
 use Rattle.rr_journal.specs.OpeningTable.{ComesToAny, disk_after}
-use Rattle.rr_core.specs.declared.steps.Progress.{Progress}
-use Rattle.rr_core.specs.Recoveries.{as_step, StartsAtEnd, RestsAtEnd}
-use Rattle.rr_node.specs.Views.{NodeDisk, areas_in}
-use Rattle.rr_node.proofs.OpeningLaws.{Recovered, opens_more, opens_done, opens_fallen, opens_stopped}
+use Rattle.rr_journal.specs.StepsInPlace.{as_progress}
+use Rattle.rr_node.specs.declared.doing.Doing.TheVariants as does
+use Rattle.rr_node.specs.Views.{NodeDisk, areas_in, Ended}
+use Rattle.rr_node.proofs.CallLaws.{carried}
+use Rattle.rr_node.proofs.OpeningLaws.{opens_fallen, opens_stopped}
 use Rattle.rr_node.proofs.doing.open_on.Goals as goal
+use Rattle.rr_node.proofs.doing.open_on.Goals.{then-is_device, else-is_device}
 
-pub returns-in-Ok-More : goal.returns-in-Ok-More
-returns-in-Ok-More c n p =
-    opens_more n p c.args.opening c.in-Ok-More.opening (subst (λ (x : Progress NodeDisk). Recovered c.args.opening (Ok x)) c.in-Ok-More.field-0-is c.in-Ok-More.ensures.exact)
-    (subst (λ (x : Progress NodeDisk). IfOk (as_step {D = NodeDisk} (Ok x)) (λ (y : journal.Progress NodeDisk). ComesToAny {D = NodeDisk} areas_in y)) c.in-Ok-More.field-0-is (c.in-Ok-More.ensures.comes tt))
-    (subst (λ (x : Progress NodeDisk). (disk_after {D = NodeDisk} (as_step {D = NodeDisk} (Ok x))).calls ≡ counted c.args.opening.disk.calls) c.in-Ok-More.field-0-is c.in-Ok-More.ensures.call)
+pub returns-in-Ok-Some : goal.returns-in-Ok-Some
+returns-in-Ok-Some c n p =
+    let old = c.in-Opening.opening in
+    let new = c.step_on.new.self in
+    let gave = c.in-Ok-Some.ensures in
+    let is = c.in-Ok-Some.field-0-is in
+    let ended : Ended old new c.in-Ok-Some.end = record {
+      steps = subst (λ (x : Option End). Steps (FailingRead MemoryRead) (FailingWrite MemoryWrite) (FailingSync MemorySync) old (as_progress {D = NodeDisk} new (Ok x))) is gave.exact;
+      comes = subst (λ (x : Option End). IfOk (as_progress {D = NodeDisk} new (Ok x)) (λ (y : Progress NodeDisk). ComesToAny {D = NodeDisk} areas_in y)) is (gave.comes tt);
+      knows = subst (λ (x : Option End). IfOk (as_progress {D = NodeDisk} new (Ok x)) (λ (y : Progress NodeDisk). KnowsOther {D = NodeDisk} areas_in y)) is (gave.fronts tt);
+      snaps = subst (λ (x : Option End). IfOk (as_progress {D = NodeDisk} new (Ok x)) (λ (y : Progress NodeDisk). MaySnap {D = NodeDisk} y)) is gave.snapshot;
+      calls = subst (λ (x : Option End). (disk_after {D = NodeDisk} (as_progress {D = NodeDisk} new (Ok x))).calls ≡ counted old.disk.calls) is gave.call;
+    } in
+    carried n p at.Device at.Device c.args.doing.now (does.Opening old) c.close.new.doing c.close.new.doing c.close.result refl c.in-Opening.is refl (c.close.ensures new refl n p old ended)
 
-pub returns-in-Ok-Done : goal.returns-in-Ok-Done
-returns-in-Ok-Done c n p =
-    let gave = c.in-Ok-Done.ensures in
-    opens_done n p c.args.opening c.in-Ok-Done.core c.in-Ok-Done.slots c.serve.result.1 c.serve.result.0
-    (subst (λ (x : Progress NodeDisk). Recovered c.args.opening (Ok x)) c.in-Ok-Done.field-0-is gave.exact)
-    (subst (λ (x : Progress NodeDisk). StartsAtEnd {D = NodeDisk} x) c.in-Ok-Done.field-0-is gave.core)
-    (subst (λ (x : Progress NodeDisk). RestsAtEnd {D = NodeDisk} areas_in x) c.in-Ok-Done.field-0-is (gave.rests tt))
-    (subst (λ (x : Progress NodeDisk). IfOk (as_step {D = NodeDisk} (Ok x)) (λ (y : journal.Progress NodeDisk). KnowsOther {D = NodeDisk} areas_in y)) c.in-Ok-Done.field-0-is (gave.fronts tt))
-    (subst (λ (x : Progress NodeDisk). IfOk (as_step {D = NodeDisk} (Ok x)) (λ (y : journal.Progress NodeDisk). MaySnap {D = NodeDisk} y)) c.in-Ok-Done.field-0-is gave.snapshot)
-    (subst (λ (x : Progress NodeDisk). (disk_after {D = NodeDisk} (as_step {D = NodeDisk} (Ok x))).calls ≡ counted c.args.opening.disk.calls) c.in-Ok-Done.field-0-is gave.call)
-    (c.serve.ensures n p)
-
-pub returns-then-is_device : goal.returns-then-is_device
-returns-then-is_device c n p = opens_fallen n p c.args.opening c.in-Err.refusal c.in-Err.disk c.in-Err.ensures.exact c.in-Err.ensures.call (c.is_device.ensures.0 c.if-is_device.true)
-
-pub returns-else-is_device : goal.returns-else-is_device
-returns-else-is_device c n p =
-    opens_stopped n p c.args.opening c.in-Err.refusal c.in-Err.disk c.in-Err.ensures.exact c.in-Err.ensures.call
-    (λ is. (let both : false ≡ true = sym c.if-is_device.false ∙ c.is_device.ensures.1 is in absurd cc))
+pub returns-after-is_device : goal.returns-after-is_device
+returns-after-is_device c n p =
+    let old = c.in-Opening.opening in
+    let new = c.step_on.new.self in
+    let gave = c.in-Err.ensures in
+    elim c.if-is_device.branch [
+      | then-is_device w ↦
+          carried n p at.Device at.Device c.args.doing.now (does.Opening old) c.if-is_device.doing (does.Faulted new.disk) (Err c.in-Err.refusal) refl c.in-Opening.is (w.doing-is ∙ w.fall.ensures.opening new refl)
+          (opens_fallen n p old c.in-Err.refusal new.disk (inl gave.exact) gave.call (c.is_device.ensures.0 w.if-is_device.true))
+      | else-is_device w ↦
+          carried n p at.Device at.Device c.args.doing.now (does.Opening old) c.if-is_device.doing (does.Stopped new.disk) (Err c.in-Err.refusal) refl c.in-Opening.is (w.doing-is ∙ w.stop.ensures.opening new refl)
+          (opens_stopped n p old c.in-Err.refusal new.disk (inl gave.exact) gave.call
+          (λ is. (let both : false ≡ true = sym w.if-is_device.false ∙ c.is_device.ensures.1 is in absurd cc)))
+    ]
