@@ -1,13 +1,16 @@
 #!/usr/bin/env python3
 """Tries the edits in the folders beside it, named after their crates, on a copy of the tree: the prover must refuse each.
 
-    more-edits/try.py [--gate | --all] [--anew] [--kept FOLDER] [--since COMMIT] [--jobs N] [CRATE ..]
+    more-edits/try.py [--gate | --all] [--anew] [--kept FOLDER] [--since COMMIT] [--left] [--jobs N] [CRATE ..]
 
 With --since it takes the crates of which a source, a definition, a proof or an edit has changed since that commit; else those that
 are named, or all. With --gate it tries the gate's own edits, crates/*/must-fail, and with --all both. It runs the kit's `rt ci` over
 a copy of these crates and those below. Where the kit keeps what earlier runs on this machine proved or tried, it takes that, but with
 --anew. With --kept it takes what bench/prove.py has kept in that folder, and proves there what is lacking. N checks run side by side,
 as many as there are processors if left out.
+
+Each edit that is refused is noted in refused.txt, with a sum over the edit and the sources and definitions of its crate. With --left
+edits are left out that are noted so of today's text. So a run that is cut off loses nothing, and the file tells what was tried.
 
 The gate leaves these edits out for its time: they turn the meaning of what stands inside a crate, or of a public function that another
 edit turns in the gate. Edits of the bodies of different functions are tried in one check, since a function's proof rests on the
@@ -16,6 +19,8 @@ refused, and names those that weren't. It also names the edits of this run of wh
 source: there a proof by hand no longer fits, and whether the contract is broken has to be read."""
 import argparse
 import concurrent.futures
+import fcntl
+import hashlib
 import importlib.machinery
 import importlib.util
 import os
@@ -31,6 +36,7 @@ import time
 
 FOLDER = pathlib.Path(__file__).resolve().parent
 TREE = FOLDER.parent
+NOTES = FOLDER / "refused.txt"
 
 
 def lines_of(*words):
@@ -50,6 +56,41 @@ def edits_of(gate, more):
     for edit in [*(TREE.glob("crates/*/must-fail/*.edit") if gate else ()), *(FOLDER.glob("*/*.edit") if more else ())]:
         found.setdefault(edit.parent.name if edit.parent.parent == FOLDER else edit.parent.parent.name, []).append(edit)
     return found
+
+
+def rests_on(name, edit):
+    """A sum over what a verdict on an edit of this crate rests on: the edit, and the crate's sources and definitions."""
+    crate, told = TREE / "crates" / name, hashlib.sha256(edit.read_bytes())
+    for file in sorted([*crate.glob("src/**/*.rt"), *crate.glob("specs/**/*.antt")]):
+        told.update(f"{file.relative_to(crate)}\n".encode() + file.read_bytes())
+    return told.hexdigest()[:16]
+
+
+def noted():
+    """The edits that are noted as refused, each with the sum of then. Edits that are gone are left out."""
+    lines = [line.split() for line in NOTES.read_text().splitlines()] if NOTES.is_file() else []
+    files = lambda name, edit: (FOLDER / name / edit, TREE / "crates" / name / "must-fail" / edit)
+    return {label: told for label, told in lines if any(file.is_file() for file in files(*label.split("/")))}
+
+
+class Notes:
+    """Notes refused edits with the sums that they have at the start. Runs side by side may do so."""
+
+    def __init__(self, edits):
+        self.sums = {f"{name}/{edit.name}": rests_on(name, edit) for name, files in edits.items() for edit in files}
+
+    def add(self, label):
+        with open(FOLDER / "try.py") as lock:
+            fcntl.flock(lock, fcntl.LOCK_EX)
+            lines = noted() | {label: self.sums[label]}
+            NOTES.write_text("".join(f"{it} {lines[it]}\n" for it in sorted(lines)))
+
+    def left(self, edits):
+        """Those of these edits that aren't noted as refused with the same sum."""
+        was = noted()
+        lacks = lambda name, edit: was.get(f"{name}/{edit.name}") != self.sums[f"{name}/{edit.name}"]
+        found = {name: [edit for edit in files if lacks(name, edit)] for name, files in edits.items()}
+        return {name: files for name, files in found.items() if files}
 
 
 def with_those_below(names):
@@ -206,12 +247,12 @@ def module(name, file):
     return made
 
 
-def kit(rt):
+def kit(rt, notes):
     """Has the kit's command note what it says of each edit, and the edits of which proof files alone complain."""
     checked, say, last, verdicts, together = rt.checked, rt.say, threading.local(), {}, Together(rt)
     by_hand, alone = together.by_hand, together.alone
 
-    def noted(*given):
+    def kept_last(*given):
         last.ran = checked(*given)
         return last.ran
 
@@ -224,7 +265,10 @@ def kit(rt):
 
     def tried(crate, edit, *given):
         kind, text = together(crate, edit, *given)
-        print(f"tried {crate.name}/{os.path.basename(edit)}: {kind}", file=sys.stderr, flush=True)
+        label = f"{crate.name}/{os.path.basename(edit)}"
+        print(f"tried {label}: {kind}", file=sys.stderr, flush=True)
+        if kind == together.refused and label in notes.sums:
+            notes.add(label)
         return kind, text
 
     def said(text, *given):
@@ -234,17 +278,17 @@ def kit(rt):
         say(text, *given)
 
     together.alone = judged
-    rt.checked, rt.must_fail, rt.say = noted, tried, said
+    rt.checked, rt.must_fail, rt.say = kept_last, tried, said
     return by_hand, verdicts
 
 
-def try_over_kept(kept, names, jobs):
+def try_over_kept(kept, names, jobs, notes):
     """Tries the edits of these crates of the tree here over what is kept in a folder, once what is lacking there is proved."""
     prover = TREE / "bench" / "prove.py"
     if subprocess.run([prover, "--tree", ".", "--kept", kept, "--no-tests", *names]).returncode:
         return 1, set(), {}
     rt = module("prove", prover).kit()
-    by_hand, verdicts = kit(rt)
+    by_hand, verdicts = kit(rt, notes)
     crates = [crate for crate in rt.rtlib.crates_below(os.getcwd()) if crate.name in names]
 
     def try_all(crate):
@@ -279,6 +323,7 @@ def main():
     words.add_argument("--anew", action="store_true")
     words.add_argument("--kept", type=pathlib.Path)
     words.add_argument("--since", metavar="COMMIT")
+    words.add_argument("--left", action="store_true")
     words.add_argument("--jobs", type=int)
     words.add_argument("crates", nargs="*", metavar="CRATE")
     asked = words.parse_args()
@@ -290,18 +335,26 @@ def main():
         names &= changed_since(asked.since)
     if not names:
         return "no crate of these has edits"
+    edits = {name: edits[name] for name in names}
+    notes = Notes(edits)
+    if asked.left:
+        edits = notes.left(edits)
+    if not edits:
+        print("no edit is left to try")
+        return 0
+    names = set(edits)
     begun = time.monotonic()
     with tempfile.TemporaryDirectory() as room:
-        copy_tree(pathlib.Path(room), {name: edits[name] for name in names})
+        copy_tree(pathlib.Path(room), edits)
         os.chdir(room)
         os.environ.pop("CI", None)
         if asked.jobs:
             os.environ["RT_JOBS"] = str(asked.jobs)
         if asked.kept:
-            status, by_hand, verdicts = try_over_kept(asked.kept.resolve(), names, asked.jobs or os.cpu_count())
+            status, by_hand, verdicts = try_over_kept(asked.kept.resolve(), names, asked.jobs or os.cpu_count(), notes)
         else:
             rt = module("rt_command", os.path.realpath(shutil.which("rt")))
-            by_hand, verdicts = kit(rt)
+            by_hand, verdicts = kit(rt, notes)
             status = rt.main(["ci", *(["--anew"] if asked.anew else [])])
         os.chdir(TREE)
     wanted = {f"{name}/{edit.name}" for name in names for edit in edits[name]}
