@@ -1,12 +1,13 @@
 #!/usr/bin/env python3
 """Tries the edits in the folders beside it, named after their crates, on a copy of the tree: the prover must refuse each.
 
-    more-edits/try.py [--gate | --all] [--anew] [--kept FOLDER] [--since COMMIT] [--left] [--jobs N] [CRATE ..]
+    more-edits/try.py [--gate | --all] [--anew] [--kept FOLDER] [--work] [--since COMMIT] [--left] [--jobs N] [CRATE ..]
 
 With --since it takes the crates of which a source, a definition, a proof or an edit has changed since that commit; else those that
 are named, or all. With --gate it tries the gate's own edits, crates/*/must-fail, and with --all both. It runs the kit's `rt ci` over
 a copy of these crates and those below. Where the kit keeps what earlier runs on this machine proved or tried, it takes that, but with
---anew. With --kept it takes what bench/prove.py has kept in that folder, and proves there what is lacking. N checks run side by side,
+--anew. With --kept it takes what bench/prove.py has kept in that folder, and proves there what is lacking. With --work it begins with what `rt check` has
+kept of a crate in any checkout here, and doesn't prove the crates. N checks run side by side,
 as many as there are processors if left out.
 
 Each edit that is refused is noted in refused.txt, with a sum over the edit and the sources and definitions of its crate. With --left
@@ -322,6 +323,7 @@ def main():
     which.add_argument("--all", action="store_true")
     words.add_argument("--anew", action="store_true")
     words.add_argument("--kept", type=pathlib.Path)
+    words.add_argument("--work", action="store_true")
     words.add_argument("--since", metavar="COMMIT")
     words.add_argument("--left", action="store_true")
     words.add_argument("--jobs", type=int)
@@ -355,7 +357,8 @@ def main():
         else:
             rt = module("rt_command", os.path.realpath(shutil.which("rt")))
             by_hand, verdicts = kit(rt, notes)
-            status = rt.main(["ci", *(["--anew"] if asked.anew else [])])
+            verb = ["must-fail", *sorted(names)] if asked.work else ["ci"]
+            status = rt.main([*verb, *(["--anew"] if asked.anew else [])])
         os.chdir(TREE)
     wanted = {f"{name}/{edit.name}" for name in names for edit in edits[name]}
     is_well = tell(verdicts, by_hand, wanted, (time.monotonic() - begun) / 60)
