@@ -6,9 +6,9 @@
 With --since it takes the crates of which a source, a definition, a proof or an edit has changed since that commit; else those that
 are named, or all. With --gate it tries the gate's own edits, crates/*/must-fail, and with --all both. It runs the kit's `rt ci` over
 a copy of these crates and those below. Where the kit keeps what earlier runs on this machine proved or tried, it takes that, but with
---anew. With --kept it takes what bench/prove.py has kept in that folder, and proves there what is lacking. With --work it begins with what `rt check` has
-kept of a crate in any checkout here, and doesn't prove the crates. N checks run side by side,
-as many as there are processors if left out.
+--anew. With --kept it takes what bench/prove.py has kept in that folder, and proves there what is lacking. With --work it begins with
+what `rt check` has kept of a crate in any checkout here, and doesn't prove the crates. N checks run side by side, as many as there are
+processors if left out.
 
 Each edit that is refused is noted in refused.txt, with a sum over the edit and the sources and definitions of its crate. With --left
 edits are left out that are noted so of today's text. So a run that is cut off loses nothing, and the file tells what was tried.
