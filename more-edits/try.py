@@ -175,7 +175,7 @@ def body_of(folder, edit):
 class Together:
     """Tries edits of the bodies of different functions of a crate in one check over its seed."""
 
-    MOST = 12
+    MOST = 48
     # What the prover says of a function of which a goal of its own is open. (A caller of one that isn't proved waits for that.)
     IS_OWN = re.compile(r"not proved|no proof: expected answers in \S+; `search` did not prove .*")
 
@@ -276,6 +276,9 @@ def kit(rt, notes):
         told = re.match(r"must-fail (\S+): (.*)", text)
         if told:
             verdicts[told[1]] = told[2]
+            # (what an earlier run here came to wasn't tried again, and is noted too)
+            if told[2].startswith("refused, as it must be") and told[1] in notes.sums:
+                notes.add(told[1])
         say(text, *given)
 
     together.alone = judged
