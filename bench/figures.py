@@ -4,8 +4,8 @@
     bench/figures.py [--rr PROGRAM] [--opening PROGRAM] [--rounds N] [--small]
 
 --rr names the program, crates/rr/out/rr if left out, and --opening a bench_opening that is there; else it is built first. --rounds is for
-each script, 7 if left out; run.py makes three times as many. On a quiet machine it takes some six minutes, and with --small one, by short
-runs that show only that each line comes. First come the lines of the scripts, as they print them; the table is computed from these lines alone."""
+each script, 7 if left out; run.py makes three times as many, and sim.sh six times. On a quiet machine it takes some six minutes, and with
+--small one, by short runs that show only that each line comes. First come the lines of the scripts, as they print them; the table is computed from these lines alone."""
 import argparse
 import os
 import pathlib
@@ -55,7 +55,8 @@ def found(pattern, text):
 
 
 def simulations(given):
-    text = said_by("./sim.sh", "--rr", given.rr, given.rounds, 1 if given.small else 20)
+    # Such a run takes a sixth of a second. A machine that others share is slower by half for seconds on end, so both programs need many.
+    text = said_by("./sim.sh", "--rr", given.rr, 6 * given.rounds, 1 if given.small else 20)
     ratios = [found(rf"{what}.*; ([\d.]+) times the time", text)[0] for what in ("random, 3 nodes", "random, 7 nodes", "decisions")]
     early, late = (found(rf"\n{count} events: ([\d.]+) us .*, ([\d.]+) us", text) for count in (10_000, 900_000))
     later = [b / a for a, b in zip(early, late)]
