@@ -212,7 +212,7 @@ class Together:
         return told or self.alone(crate, edit, flags, *([kept] if kept else []))
 
     def check(self, crate, claimed, flags, kept):
-        """Checks the crate with all of these edits, and notes those whose function isn't proved."""
+        """Checks the crate with all of these edits, and notes those whose function isn't proved. Without a verdict each half is checked."""
         texts = {}
         for edit in claimed:
             for path, old, new in pairs_of(edit):
@@ -221,12 +221,17 @@ class Together:
                 texts[path] = text.replace(old, new) if text.count(old) == 1 else text
         ran = self.rt.checked(crate, texts, flags, kept)
         if ran.returncode != 1 or not ran.stdout.rstrip("\n").split("\n")[-1].startswith("logic=not-proved"):
+            edits = list(claimed.items())
+            half = len(edits) // 2
+            for part in (edits[:half], edits[half:]) if half else ():
+                self.check(crate, dict(part), flags, kept)
             return
         verdicts = re.findall(r"^fn (\S+): (.*)$", ran.stdout, re.MULTILINE)
         for edit, (path, name) in claimed.items():
             module = "::".join([crate.name, *pathlib.PurePath(path).with_suffix("").parts[1:]]).removesuffix("::lib")
-            own = [verdict for full, verdict in verdicts if full.startswith(module + "::") and full.rpartition("::")[2] == name]
-            if len(own) == 1 and self.IS_OWN.fullmatch(own[0]):
+            # (others of this name in the file aren't edited; of those that call it the prover says so)
+            named = (verdict for full, verdict in verdicts if full.startswith(module + "::") and full.rpartition("::")[2] == name)
+            if sum(bool(self.IS_OWN.fullmatch(verdict)) for verdict in named) == 1:
                 self.told[edit].set_result((self.refused, self.note(crate, edit, path, name, texts[path], ran.stdout)))
 
     def note(self, crate, edit, path, name, text, said):
