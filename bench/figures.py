@@ -4,8 +4,9 @@
     bench/figures.py [--rr PROGRAM] [--opening PROGRAM] [--rounds N] [--small]
 
 --rr names the program, crates/rr/out/rr if left out, and --opening a bench_opening that is there; else it is built first. --rounds is for
-each script, 7 if left out; run.py makes three times as many, and sim.sh six times. On a quiet machine it takes some six minutes, and with
---small one, by short runs that show only that each line comes. First come the lines of the scripts, as they print them; the table is computed from these lines alone."""
+each script, 7 if left out; run.py makes three times as many, and sim.sh six times. On a quiet machine it takes some four minutes, and with
+--small one, by short runs that show only that each line comes. First come the lines of the scripts, as they print them; the table is
+computed from these lines alone."""
 import argparse
 import os
 import pathlib
