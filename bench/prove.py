@@ -1,14 +1,22 @@
 #!/usr/bin/env python3
 """Proves the crates of a tree as `rt ci` does, without edits, and keeps what is proved by its content.
 
-    bench/prove.py [--tree FOLDER] [--kept FOLDER] [--no-tests] [CRATE ..]
+    bench/prove.py [--tree FOLDER] [--kept FOLDER] [--no-tests] [--by-interface] [CRATE ..]
 
 It takes the crates that are named and those below them, or all. A later run, of this tree or another, proves only what changed
 and what stands on it. So a change is checked in minutes while it is made; the verdict is the gate's, which takes nothing from
 here. What is kept fits one kit alone, and may be removed at any time. Programs and tests are built and run too. What a crate's
-check said lies in FOLDER/said. Run it with `nice`, and leave the tree as it is while it runs."""
+check said lies in FOLDER/said. Run it with `nice`, and leave the tree as it is while it runs. Several runs may share a FOLDER: each
+waits for a crate that another is just proving.
+
+With --by-interface a crate also counts as proved where it was before, over libraries whose interface is the same: their public
+items with their contracts, their definitions and lemmas. A proof rests on nothing else of them. So behind a change in a body the
+crates above stay as they are, and what isn't proved anew isn't run."""
 import argparse
+import contextlib
 import copy
+import fcntl
+import hashlib
 import importlib.machinery
 import importlib.util
 import os
@@ -55,12 +63,43 @@ def once_a_folder(method):
     return asked
 
 
+def is_of_interface(path):
+    """Whether a file of a library is part of what the crates above it can name: not a proof of a function, nor what it compiles to."""
+    return path.startswith(("interface/", "lang/")) and path != "lang/antt/made.json" and not path.endswith(
+        ("/mir.json", "/Answers.antt", "/Invariants.antt", "/Proof.antt")
+    )
+
+
+def interface_of(rlib):
+    """A sum over a library's interface."""
+    told = hashlib.sha256()
+    for file in sorted(it for it in rlib.rglob("*") if it.is_file()):
+        path = str(file.relative_to(rlib))
+        if is_of_interface(path):
+            told.update(repr((path, file.read_bytes())).encode())
+    return told.hexdigest()
+
+
 class Proofs:
     """Proves crates, and keeps what is proved."""
 
-    def __init__(self, rt, kept):
-        self.rt, self.kept, self.failed = rt, kept, []
-        (kept / "said").mkdir(parents=True, exist_ok=True)
+    def __init__(self, rt, kept, by_interface=False):
+        self.rt, self.kept, self.by_interface, self.failed, self.sums = rt, kept, by_interface, [], {}
+        for folder in ("said", "locks", "by_interface"):
+            (kept / folder).mkdir(parents=True, exist_ok=True)
+
+    def over_interfaces(self, crate, tests):
+        """A sum over the crate's own files and the interfaces of the libraries below it, which lie in their folders."""
+        told = hashlib.sha256(pathlib.Path(self.rt.KIT, "WHAT").read_bytes() + repr((crate.name, crate.said, tests)).encode())
+        for file in self.rt.rtlib.files_of(crate.folder):
+            told.update(repr((file.replace(crate.folder, ""), pathlib.Path(file).read_bytes())).encode())
+        for dep in crate.below():
+            rlib = pathlib.Path(dep.rlib)
+            sign = rlib.stat().st_ino, rlib.stat().st_mtime_ns
+            if self.sums.get(dep.name, (None,))[0] != sign:
+                self.sums[dep.name] = sign, interface_of(rlib)
+            told.update(f"{dep.name} {self.sums[dep.name][1]}\n".encode())
+        return self.kept / "by_interface" / told.hexdigest()
 
     def prove(self, crate, tests, given, jobs):
         if not all(given[dep.name, "proof"] for dep in crate.below()):
@@ -68,29 +107,35 @@ class Proofs:
         if tests and not crate.has_tests():
             return True
         room = self.kept / f"{crate.stamp()}-{'tests' if tests else 'proof'}"
+        with open(self.kept / "locks" / room.name, "w") as lock:
+            fcntl.flock(lock, fcntl.LOCK_EX)
+            return self.prove_alone(crate, tests, room, jobs)
+
+    def prove_alone(self, crate, tests, room, jobs):
+        """The same of a crate that no other run is just proving; the folder is its place among what is kept."""
         out = pathlib.Path(crate.folder) / "out"
         is_library = not (tests or crate.is_program)
         if is_library:
             shutil.rmtree(out / "rlib", ignore_errors=True)
-        if room.is_dir():
+        same = self.over_interfaces(crate, tests)
+        kept = room if room.is_dir() else same.resolve() if self.by_interface and same.is_dir() else None
+        if not kept:
+            out.mkdir(exist_ok=True)
+            begun = time.monotonic()
+            why = self.check(crate, tests, jobs)
+            if why:
+                return self.tell(crate, tests, why)
+            part = room.with_suffix(f".{os.getpid()}")
+            shutil.rmtree(part, ignore_errors=True)
+            part.mkdir()
             if is_library:
-                link(room / "rlib", out / "rlib")
-            return True
-        out.mkdir(exist_ok=True)
-        begun = time.monotonic()
-        why = self.check(crate, tests, jobs)
-        if why:
-            return self.tell(crate, tests, why)
-        part = room.with_suffix(f".{os.getpid()}")
-        shutil.rmtree(part, ignore_errors=True)
-        part.mkdir()
-        if is_library:
-            link(out / "rlib", part / "rlib")
-        try:
+                link(out / "rlib", part / "rlib")
             part.rename(room)
-        except OSError:  # another run has just kept the same
-            shutil.rmtree(part)
-        print(f"{crate.name}{' (tests)' if tests else ''} proved in {time.monotonic() - begun:.0f} s", flush=True)
+            print(f"{crate.name}{' (tests)' if tests else ''} proved in {time.monotonic() - begun:.0f} s", flush=True)
+        elif is_library:
+            link(kept / "rlib", out / "rlib")
+        with contextlib.suppress(FileExistsError):
+            same.symlink_to(room)
         return True
 
     def check(self, crate, tests, jobs):
@@ -127,6 +172,7 @@ def main():
     words.add_argument("--tree", type=pathlib.Path, default=TREE)
     words.add_argument("--kept", type=pathlib.Path, default=pathlib.Path("/var/tmp/proved"))
     words.add_argument("--no-tests", action="store_true")
+    words.add_argument("--by-interface", action="store_true")
     words.add_argument("crates", nargs="*", metavar="CRATE")
     asked = words.parse_args()
     kept = asked.kept.resolve()
@@ -139,7 +185,7 @@ def main():
         wanted = {crate.name for crate in named} | {dep.name for crate in named for dep in crate.below()}
         crates = [crate for crate in crates if crate.name in wanted]
     crates.sort(key=lambda crate: len(crate.below()))
-    proofs, tasks = Proofs(rt, kept), {}
+    proofs, tasks = Proofs(rt, kept, asked.by_interface), {}
     for crate in crates:
         waits, lines, memory = [(dep.name, "proof") for dep in crate.below()], crate.count(rb"\n"), rt.need(crate)
         for kind in ("proof",) if asked.no_tests else ("proof", "tests"):
