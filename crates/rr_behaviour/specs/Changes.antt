@@ -1,3 +1,4 @@
+-- When what a call has changed is the node's step on an input, or all that was due; which inputs repeat a decided request.
 use Rattle.std.specs.Prelude.{◌≡◌, ◌<◌, ◌^◌, Bool, false, None}
 use Rattle.rr_types.specs.Registry.{has_request}
 use Rattle.rr_model.specs.NodeState.{NodeState, next_number, decided_prefix}

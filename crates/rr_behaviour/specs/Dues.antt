@@ -1,3 +1,4 @@
+-- What the code finds due, in the words of the node's definition, and when it can be carried out.
 use Rattle.std.specs.Prelude.{◌≡◌, ℕ, ◌<◌, true, None, Some}
 use Rattle.rr_types.specs.Standings.{round_of, is_undecided}
 use Rattle.rr_types.specs.Limits.{last_round}

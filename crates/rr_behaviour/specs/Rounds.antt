@@ -1,3 +1,4 @@
+-- What an open instance owes the coordinator of its round: its estimate, or its acknowledgement.
 use Rattle.std.specs.Prelude.{ℕ, if◌then◌else◌, Some, [], ◌∷◌, nat_lt}
 use Rattle.rr_types.specs.declared.message.Body.TheVariants as say
 use Rattle.rr_types.specs.Rounds.{OpenAt, coordinator_of}

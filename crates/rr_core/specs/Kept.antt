@@ -1,3 +1,4 @@
+-- What holds of a core between calls: lawful facts that have numbers, and the registry of its decided prefix.
 use Rattle.std.specs.Prelude.{◌≡◌, ◌<◌, ◌^◌}
 use Rattle.rr_registry.specs.Kept.{Kept, kept_of}
 use Rattle.rr_model.specs.NodeState.{NodeState, next_number, decided_prefix}

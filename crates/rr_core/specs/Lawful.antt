@@ -1,3 +1,4 @@
+-- The facts of a node that aren't marked yet, and when all its facts are lawful: they fit, and instances stand where they say.
 use Rattle.std.specs.Prelude.{◌≡◌, ℕ, ◌≤◌, ◌++◌, [], List, length, IfSome, true}
 use Rattle.std.specs.Option.{option_map_or}
 use Rattle.rr_types.specs.declared.fact.Fact.{Fact}

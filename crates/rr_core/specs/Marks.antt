@@ -1,3 +1,4 @@
+-- A mark, a message with the number of the fact that backs it, and whether the mark clears the message.
 use Rattle.std.specs.Prelude.{◌≡◌, ◌⊎◌, ℕ, ◌<◌, Bool, ◌&&◌, ◌==◌, nat_lt, IsTrue, List, Contains, Some}
 use Rattle.rr_types.specs.declared.message.Message.{Message}
 use Rattle.rr_model.specs.NodeState.{NodeState, Owed}

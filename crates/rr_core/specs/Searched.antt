@@ -1,3 +1,4 @@
+-- How far the decided prefix was searched for requests that wait.
 use Rattle.std.specs.Prelude.{◌≡◌, ◌≤◌, ℕ, Bool, false, length, take}
 use Rattle.std.specs.List.{list_any}
 use Rattle.rr_types.specs.Registry.{has_request}

@@ -1,3 +1,4 @@
+-- When a node can take what a step has changed: its facts stay lawful, and the next fact has a number.
 use Rattle.std.specs.Prelude.{◌<◌, ◌^◌}
 use Rattle.rr_model.specs.NodeState.{NodeState, next_number}
 use Rattle.rr_step.specs.Steps.{Changed, combined, IsFitting}

@@ -1,3 +1,4 @@
+-- The open instances of the rows, and what holds of rows, window of open instances and marks together.
 use Rattle.std.specs.Prelude.{◌≡◌, ℕ, false, List, None}
 use Rattle.rr_types.specs.Limits.{open_count}
 use Rattle.rr_model.specs.NodeState.{Row, row_of, lowest_undecided}

@@ -1,3 +1,4 @@
+-- Runs of three nodes as examples: two rounds, a crash, instances out of order and decided twice; and steps that may not happen.
 use Rattle.std.specs.Prelude.{ℕ, List, [], ◌∷◌, ◌++◌}
 use Rattle.rr_types.specs.declared.command.Command.{Command}
 use Rattle.rr_types.specs.declared.command.Op.TheVariants.{Claim}

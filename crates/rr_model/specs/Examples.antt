@@ -1,3 +1,4 @@
+-- Runs of one node as examples: it decides, acknowledges and restarts, or loses a fact; and facts that aren't lawful.
 use Rattle.std.specs.Prelude.{◌≡◌, ℕ, ◌≤◌, List, [], ◌∷◌, Option, None, Some}
 use Rattle.rr_types.specs.declared.command.Command.{Command}
 use Rattle.rr_types.specs.declared.command.RequestNo.{RequestNo}

@@ -1,3 +1,4 @@
+-- When a fact is lawful for a node, after its other facts and what it heard; and which facts back a message.
 use Rattle.std.specs.Prelude.{◌≡◌, ℕ, ◌≤◌, ◌<◌, ◌⊎◌, Bool, true, if◌then◌else◌, zero, suc, List, Option, None, Some}
 use Rattle.std.specs.List.{Contains}
 use Rattle.rr_types.specs.declared.command.Command.{Command}

@@ -1,3 +1,4 @@
+-- Laws of runs: what is chosen or kept stays so, the decided list grows, a majority locks its command, replies keep real time.
 use Rattle.std.specs.Prelude.{◌≡◌, ℕ, ◌<◌, ◌≤◌, IsTrue, List, [], ◌∷◌, ◌++◌, length, take, Some, slice_get}
 use Rattle.std.specs.List.{Contains, fold}
 use Rattle.rr_types.specs.declared.command.Command.{Command}

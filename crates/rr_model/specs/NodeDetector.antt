@@ -1,3 +1,4 @@
+-- A node's failure detectors: watches that count ticks between beats, and the reduction of what others suspect.
 use Rattle.std.specs.Prelude.{ℕ, zero, suc, ◌+◌, ◌^◌, Bool, not, ◌&&◌, ◌==◌, nat_lt, min, if◌then◌else◌, List, [], ◌∷◌, map}
 use Rattle.rr_types.specs.Nodes.{without_member, joined}
 use Rattle.rr_model.specs.NodeState.{Watch}

@@ -1,3 +1,4 @@
+-- States of a node as examples: alone it decides a command; of three it has decided behind a gap.
 use Rattle.std.specs.Prelude.{List, [], ◌∷◌}
 use Rattle.rr_types.specs.declared.fact.Fact.{Fact}
 use Rattle.rr_types.specs.declared.fact.Fact.TheVariants.{Enter, Adopt, Decide}

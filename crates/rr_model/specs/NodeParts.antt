@@ -1,3 +1,4 @@
+-- The parts of a node's step: owing messages, pooling commands, staging facts; entering, proposing, deciding and restating.
 use Rattle.std.specs.Prelude.{ℕ, Bool, false, ◌&&◌, ◌||◌, not, ◌==◌, nat_lt, if◌then◌else◌, List, [], ◌∷◌, ◌++◌, filter, map, Option, None, Some, option_map, find}
 use Rattle.std.specs.Option.{option_map_or}
 use Rattle.std.specs.List.{list_any}

@@ -1,3 +1,4 @@
+-- The states that a node reaches by events, from an opening over facts that fit.
 use Rattle.std.specs.Prelude.{◌≡◌, ℕ, ◌<◌, true, List, [], ◌++◌, length}
 use Rattle.rr_types.specs.declared.fact.Fact.{Fact}
 use Rattle.rr_types.specs.declared.message.Body.{Body}

@@ -1,3 +1,4 @@
+-- What a node that is up knows: rows, facts, pool, suspects, watches, waiting requests, owed messages; and what is read off these.
 use Rattle.std.specs.Prelude.{ℕ, zero, suc, ◌+◌, Bool, false, ◌&&◌, not, ◌==◌, nat_lt, if◌then◌else◌, List, [], ◌∷◌, length, filter, Option, None, Some, option_map}
 use Rattle.std.specs.Option.{option_map_or}
 use Rattle.std.specs.List.{list_any, range_with_len}

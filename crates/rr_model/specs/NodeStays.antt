@@ -1,3 +1,4 @@
+-- When a node stays who it is, with the same facts marked and the same group running.
 use Rattle.std.specs.Prelude.{◌≡◌}
 use Rattle.rr_model.specs.NodeState.{NodeState}
 

@@ -1,3 +1,4 @@
+-- What nodes that restart as often as is needed can go on to: fill gaps, and serve a client's request.
 use Rattle.std.specs.Prelude.{◌≡◌, ℕ, ◌+◌, ◌≤◌, ◌<◌, Bool, true, false, List, [], length, ◌⊎◌, Option, None, Some}
 use Rattle.std.specs.List.{Contains}
 use Rattle.rr_types.specs.declared.command.Command.{Command}

@@ -1,3 +1,4 @@
+-- When a command is chosen, the decided list, and a sound run: nodes agree, on submitted commands, and what was told stays true.
 use Rattle.std.specs.Prelude.{◌≡◌, ℕ, ◌≤◌, IsTrue, List, ◌∷◌, ◌++◌, length, take, Some, slice_get}
 use Rattle.std.specs.List.{Contains}
 use Rattle.rr_types.specs.declared.command.Command.{Command}

@@ -1,3 +1,4 @@
+-- The world: what was said, submitted and kept, the steps that may happen there, and the runs of such steps.
 use Rattle.std.specs.Prelude.{◌≡◌, ℕ, ◌≤◌, ◌<◌, Bool, true, false, ◌==◌, if◌then◌else◌, List, [], ◌∷◌, ◌++◌, length, take, drop, map, Some}
 use Rattle.std.specs.List.{Contains, fold, range_with_len}
 use Rattle.std.specs.Option.{some_prefix}

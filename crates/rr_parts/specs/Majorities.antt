@@ -1,3 +1,4 @@
+-- Whether a set of nodes has a majority.
 use Rattle.std.specs.Prelude.{ℕ, Bool, nat_le, length, filter}
 use Rattle.std.specs.List.{range_with_len}
 use Rattle.rr_types.specs.Nodes.{has_member}

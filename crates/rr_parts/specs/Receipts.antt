@@ -1,3 +1,4 @@
+-- Whom the completeness reduction suspects after a list of received sets, and what it must do: complete, and inventing nothing.
 use Rattle.std.specs.Prelude.{◌≡◌, ◌≢◌, ℕ, ◌<◌, ◌↔◌, ◌⊎◌, IsTrue, false, List, [], ◌∷◌}
 use Rattle.rr_types.specs.Nodes.{has_member}
 use Rattle.rr_model.specs.NodeDetector.{reduced}

@@ -1,3 +1,4 @@
+-- The rule by which a heartbeat detector suspects a node, over a whole list of ticks and beats.
 use Rattle.std.specs.Prelude.{◌≡◌, ℕ, ◌+◌, ◌<◌, ◌≤◌, Bool, ◌==◌, nat_lt, min, if◌then◌else◌, List, [], ◌∷◌, replicate}
 use Rattle.rr_types.specs.Nodes.{has_member}
 use Rattle.rr_model.specs.NodeState.{Watch}

@@ -1,3 +1,4 @@
+-- The facts of a node that aren't marked yet.
 use Rattle.std.specs.Prelude.{List, Option}
 use Rattle.rr_types.specs.declared.fact.Fact.{Fact}
 

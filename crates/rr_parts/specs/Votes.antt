@@ -1,3 +1,4 @@
+-- The votes that a coordinator keeps: the first of each node.
 use Rattle.std.specs.Prelude.{◌≡◌, ℕ, ◌+◌, ◌≤◌, ◌==◌, List, [], ◌∷◌, Option, find}
 use Rattle.rr_model.specs.NodeState.{Vote}
 use Rattle.rr_model.specs.NodeStep.{with_vote}

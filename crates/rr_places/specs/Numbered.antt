@@ -1,3 +1,4 @@
+-- Values numbered one after another, and lists whose numbers ascend.
 use Rattle.std.specs.Prelude.{◌≡◌, ℕ, ◌+◌, ◌≤◌, List, [], ◌∷◌}
 
 module _ {V : Type 0} where

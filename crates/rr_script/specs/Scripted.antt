@@ -1,3 +1,4 @@
+-- A script: how many nodes there are, what is asked of them, and what may stand in it.
 use Rattle.std.specs.Prelude.{ℕ, ◌<◌, ◌≤◌, List}
 use Rattle.std.specs.List.{AllByRecursion}
 use Rattle.rr_types.specs.Names.{IsName}

@@ -1,3 +1,4 @@
+-- To which nodes a body goes, and which commands are free for an instance: those that are no other instance's estimate.
 use Rattle.std.specs.Prelude.{◌≡◌, ℕ, Bool, true, false, not, ◌&&◌, ◌==◌, List, filter, find, Option, None, option_map}
 use Rattle.std.specs.Option.{option_map_or}
 use Rattle.std.specs.List.{list_any, range_with_len}

@@ -1,3 +1,4 @@
+-- What a step has changed of a node, the node with that, and what a step may change.
 use Rattle.std.specs.Prelude.{◌≡◌, ℕ, ◌-◌, Bool, true, false, IsTrue, not, List, [], ◌∷◌, ◌++◌, length, take, filter, All, Option, None, Some, option_map}
 use Rattle.std.specs.List.{list_any}
 use Rattle.rr_types.specs.declared.command.RequestNo.{RequestNo}

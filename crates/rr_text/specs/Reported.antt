@@ -1,3 +1,4 @@
+-- A report: its lines, and what the run has decided.
 use Rattle.std.specs.Prelude.{List}
 use Rattle.rr_types.specs.declared.command.Command.{Command}
 use Rattle.rr_text.specs.declared.report.ReportLine.{ReportLine}

@@ -1,3 +1,4 @@
+-- A schedule: how many nodes there are, its events, and what may stand in it.
 use Rattle.std.specs.Prelude.{ℕ, ◌^◌, ◌<◌, ◌≤◌, List, length}
 use Rattle.std.specs.List.{AllByRecursion}
 use Rattle.rr_types.specs.declared.input.Input.{Input}

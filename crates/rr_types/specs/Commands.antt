@@ -1,3 +1,4 @@
+-- The kinds of operations and their words, and whether two operations or commands are one.
 use Rattle.std.specs.Prelude.{ℕ, List, Bool, false, ◌&&◌, ◌==◌, codes}
 use Rattle.std.specs.Str.{bytes_eq}
 use Rattle.rr_types.specs.declared.command.Op.{Op}

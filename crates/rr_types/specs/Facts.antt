@@ -1,3 +1,4 @@
+-- What a fact is about, where facts leave an instance, and what the instance has decided.
 use Rattle.std.specs.Prelude.{ℕ, ◌==◌, if◌then◌else◌, List, Option, None, Some}
 use Rattle.std.specs.List.{fold}
 use Rattle.rr_types.specs.declared.command.Command.{Command}

@@ -1,3 +1,4 @@
+-- A group of facts, with the number of the first.
 use Rattle.std.specs.Prelude.{ℕ, List}
 use Rattle.rr_types.specs.declared.fact.Fact.{Fact}
 

@@ -1,3 +1,4 @@
+-- The kinds of messages and their words.
 use Rattle.std.specs.Prelude.{ℕ, List, codes}
 use Rattle.rr_types.specs.declared.message.Body.{Body}
 use Rattle.rr_types.specs.declared.message.Body.TheVariants as says

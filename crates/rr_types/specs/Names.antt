@@ -1,3 +1,4 @@
+-- Which bytes make a name, and which a value.
 use Rattle.std.specs.Prelude.{ℕ, ◌≤◌, Bool, ◌&&◌, ◌||◌, ◌==◌, nat_le, List, length, IsTrue}
 use Rattle.std.specs.List.{list_all}
 use Rattle.rr_types.specs.Limits.{max_text}

@@ -1,3 +1,4 @@
+-- Sets of nodes as numbers.
 use Rattle.std.specs.Prelude.{ℕ, zero, suc, ◌+◌, ◌-◌, ◌/◌, ◌%◌, ◌^◌, Bool, ◌==◌, if◌then◌else◌}
 use Rattle.rr_types.specs.Limits.{max_nodes}
 

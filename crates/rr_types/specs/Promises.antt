@@ -1,3 +1,4 @@
+-- The promise of a list of facts: where each instance stands, whether facts fit, and which commands are decided without a gap.
 use Rattle.std.specs.Prelude.{ℕ, ◌+◌, ◌<◌, Bool, true, ◌&&◌, ◌==◌, nat_lt, if◌then◌else◌, List, [], ◌∷◌, Option, None, Some}
 use Rattle.rr_types.specs.declared.fact.Fact.{Fact}
 use Rattle.rr_types.specs.declared.promise.Standing.{Standing}

@@ -1,3 +1,4 @@
+-- The number, the name and the text of each refusal.
 use Rattle.std.specs.Prelude.{ℕ, List, [], ◌∷◌, ◌++◌, codes, decimal}
 use Rattle.std.specs.List.{flat_map}
 use Rattle.rr_types.specs.declared.refusal.Refusal.{Refusal}

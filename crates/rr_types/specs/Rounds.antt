@@ -1,3 +1,4 @@
+-- Majorities, the coordinator of a round, estimates, and where an open instance stands.
 use Rattle.std.specs.Prelude.{ℕ, ◌+◌, ◌/◌, ◌%◌, Option}
 use Rattle.rr_types.specs.declared.command.Command.{Command}
 

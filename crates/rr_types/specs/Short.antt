@@ -1,3 +1,4 @@
+-- A text of at most 64 bytes, kept in an array of 64 with zeros behind it.
 use Rattle.std.specs.Prelude.{◌≡◌, ℕ, ◌-◌, ◌≤◌, List, ◌++◌, length, take, drop, replicate}
 use Rattle.rr_types.specs.declared.short.Short.TheInside.{Inside}
 use Rattle.std.proofs.Common.{arith, ap, sym, ◌∙◌}

@@ -1,3 +1,4 @@
+-- What is read off where an instance stands: round, stamp, estimate, proposal; and whether a fact fits there.
 use Rattle.std.specs.Prelude.{◌≡◌, ℕ, Bool, true, false, ◌&&◌, ◌==◌, nat_lt, if◌then◌else◌, List, Option, None, Some, is_none}
 use Rattle.std.specs.List.{fold}
 use Rattle.rr_types.specs.declared.command.Command.{Command}

@@ -1,3 +1,4 @@
+-- What a window has published, what was appended since, and what its readers are served.
 use Rattle.std.specs.Prelude.{◌≡◌, List, [], ◌∷◌, ◌++◌, map, Result, Ok, Err}
 use Rattle.logbook.specs.Pages.{Book}
 use Rattle.rr_types.specs.declared.command.Command.{Command}
