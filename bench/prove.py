@@ -10,8 +10,8 @@ check said lies in FOLDER/said. Run it with `nice`, and leave the tree as it is 
 waits for a crate that another is just proving.
 
 With --by-interface a crate also counts as proved where it was before, over libraries whose interface is the same: their public
-items with their contracts, their definitions and lemmas. A proof rests on nothing else of them. So behind a change in a body the
-crates above stay as they are, and what isn't proved anew isn't run."""
+items with their contracts, their definitions and lemmas. A proof rests on nothing else of them. Lines that are comments don't count. So
+behind a change in a body the crates above stay as they are, and what isn't proved anew isn't run."""
 import argparse
 import contextlib
 import copy
@@ -21,6 +21,7 @@ import importlib.machinery
 import importlib.util
 import os
 import pathlib
+import re
 import shutil
 import subprocess
 import sys
@@ -63,6 +64,14 @@ def once_a_folder(method):
     return asked
 
 
+COMMENT = re.compile(rb"^[ \t]*(?:-- |//).*\n", re.MULTILINE)
+
+
+def text_of(file):
+    """The bytes of a file; of a source, a definition or a proof without the lines that are comments, on which no proof rests."""
+    return COMMENT.sub(b"", file.read_bytes()) if file.suffix in (".rt", ".antt") else file.read_bytes()
+
+
 def is_of_interface(path):
     """Whether a file of a library is part of what the crates above it can name: not a proof of a function, nor what it compiles to."""
     return path.startswith(("interface/", "lang/")) and path != "lang/antt/made.json" and not path.endswith(
@@ -76,7 +85,7 @@ def interface_of(rlib):
     for file in sorted(it for it in rlib.rglob("*") if it.is_file()):
         path = str(file.relative_to(rlib))
         if is_of_interface(path):
-            told.update(repr((path, file.read_bytes())).encode())
+            told.update(repr((path, text_of(file))).encode())
     return told.hexdigest()
 
 
@@ -92,7 +101,7 @@ class Proofs:
         """A sum over the crate's own files and the interfaces of the libraries below it, which lie in their folders."""
         told = hashlib.sha256(pathlib.Path(self.rt.KIT, "WHAT").read_bytes() + repr((crate.name, crate.said, tests)).encode())
         for file in self.rt.rtlib.files_of(crate.folder):
-            told.update(repr((file.replace(crate.folder, ""), pathlib.Path(file).read_bytes())).encode())
+            told.update(repr((file.replace(crate.folder, ""), text_of(pathlib.Path(file)))).encode())
         for dep in crate.below():
             rlib = pathlib.Path(dep.rlib)
             sign = rlib.stat().st_ino, rlib.stat().st_mtime_ns
