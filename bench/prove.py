@@ -9,9 +9,10 @@ here. What is kept fits one kit alone, and may be removed at any time. Programs 
 check said lies in FOLDER/said. Run it with `nice`, and leave the tree as it is while it runs. Several runs may share a FOLDER: each
 waits for a crate that another is just proving.
 
-With --by-interface a crate also counts as proved where it was before, over libraries whose interface is the same: their public
-items with their contracts, their definitions and lemmas. A proof rests on nothing else of them. Lines that are comments don't count. So
-behind a change in a body the crates above stay as they are, and what isn't proved anew isn't run."""
+With --by-interface a crate also counts as proved where it was before, over libraries that are the same in what a proof rests on. That
+is the interface of each library that the crate names: public items with their contracts, definitions and lemmas. And it is each
+definition that these lead to. Lines that are comments don't count. So behind a change in a body the crates above stay as they are, and
+what isn't proved anew isn't run."""
 import argparse
 import contextlib
 import copy
@@ -67,6 +68,9 @@ def once_a_folder(method):
 COMMENT = re.compile(rb"^[ \t]*(?:-- |//).*\n", re.MULTILINE)
 
 
+NAMED = re.compile(r"\bRattle\.(\w+)\.specs\.([\w.]*\w)")
+
+
 def text_of(file):
     """The bytes of a file; of a source, a definition or a proof without the lines that are comments, on which no proof rests."""
     return COMMENT.sub(b"", file.read_bytes()) if file.suffix in (".rt", ".antt") else file.read_bytes()
@@ -89,6 +93,20 @@ def interface_of(rlib):
     return told.hexdigest()
 
 
+def definitions_from(files, folders):
+    """The files of definitions that these files name, and those that they name in turn, by the folders of the libraries' definitions."""
+    found, left = set(), list(files)
+    while left:
+        for name, path in NAMED.findall(left.pop().read_text(errors="replace")):
+            words = path.split(".")
+            ends = (folders[name].joinpath(*words[:end]).with_suffix(".antt") for end in range(len(words), 0, -1)) if name in folders else ()
+            file = next((it for it in ends if it.is_file()), None)
+            if file and file not in found:
+                found.add(file)
+                left.append(file)
+    return sorted(found)
+
+
 class Proofs:
     """Proves crates, and keeps what is proved."""
 
@@ -98,16 +116,20 @@ class Proofs:
             (kept / folder).mkdir(parents=True, exist_ok=True)
 
     def over_interfaces(self, crate, tests):
-        """A sum over the crate's own files and the interfaces of the libraries below it, which lie in their folders."""
+        """A sum over the crate's own files, the interfaces of the libraries that it names, and the definitions that these lead to."""
         told = hashlib.sha256(pathlib.Path(self.rt.KIT, "WHAT").read_bytes() + repr((crate.name, crate.said, tests)).encode())
-        for file in self.rt.rtlib.files_of(crate.folder):
-            told.update(repr((file.replace(crate.folder, ""), text_of(pathlib.Path(file)))).encode())
-        for dep in crate.below():
+        own = [pathlib.Path(file) for file in self.rt.rtlib.files_of(crate.folder)]
+        for file in own:
+            told.update(repr((str(file.relative_to(crate.folder)), text_of(file))).encode())
+        for dep in crate.deps:
             rlib = pathlib.Path(dep.rlib)
             sign = rlib.stat().st_ino, rlib.stat().st_mtime_ns
             if self.sums.get(dep.name, (None,))[0] != sign:
                 self.sums[dep.name] = sign, interface_of(rlib)
             told.update(f"{dep.name} {self.sums[dep.name][1]}\n".encode())
+        named = own + [pathlib.Path(file) for dep in crate.deps for file in self.rt.rtlib.files_of(dep.folder) if "/proofs/" not in file]
+        for file in definitions_from(named, {dep.name: pathlib.Path(dep.folder, "specs") for dep in crate.below()}):
+            told.update(text_of(file))
         return self.kept / "by_interface" / told.hexdigest()
 
     def prove(self, crate, tests, given, jobs):
