@@ -396,6 +396,18 @@ def numbers_are_never_given_again(case):
     need(listed == ["decided 3", *wanted], f"decided are {listed}, not {wanted}")
 
 
+def numbers_go_on_behind_whoever_knows_most(case):
+    """Where the file is lost, numbers go on behind the greatest that any folder names, though another folder names a smaller one."""
+    shell = Shell(case, "--nodes", "3", "--client", "7")
+    shell.wants(("claim a x", "claimed"), ("at 2", "at 2"), ("sync", "synced"), ("at 0", "at 0"), ("stop 2", "stopped 2"))
+    shell.wants(("claim b x", "claimed"), ("claim c x", "claimed"))
+    shell.end()
+    os.remove(f"{case.folder}/requests")
+    shell = Shell(case, "--client", "7")
+    shell.wants(("claim d x", "claimed"), ("look d", "d bound 7 x"))
+    shell.end()
+
+
 def failing_output_ends_it(case):
     """Where standard output fails, or nobody reads it, the shell ends with 5, and submits no further line."""
     with open("/dev/full", "wb") as full:
@@ -467,6 +479,7 @@ BESIDE = (
     folder_in_use_is_refused,
     failing_device_is_told,
     numbers_are_never_given_again,
+    numbers_go_on_behind_whoever_knows_most,
     failing_output_ends_it,
     failing_input_ends_a_watch,
     people_see_a_prompt,

@@ -183,6 +183,9 @@ def main():
     held = failed = 0
     with tempfile.TemporaryDirectory() as made:
         room = pathlib.Path(made)
+        # Helps show the name by which the program is called.
+        (room / "rr").symlink_to(rr)
+        rr = room / "rr"
         for name, faults in itertools.chain(try_rows(rr, room / "rows"), try_works(rr, room / "works")):
             held, failed = held + (not faults), failed + bool(faults)
             for fault in faults:
