@@ -9,7 +9,7 @@
 //!    a `Cleared`, which nothing else makes;
 //! 5. tells clients the replies (`next_ack`).
 //!
-//! `crates/one_node` is such a program, and README shows its middle. What an input does is in `rr_behaviour`, from `input.rt` on:
+//! `crates/one_node` is such a program, and docs/PROGRAMS.md shows its middle. What an input does is in `rr_behaviour`, from `input.rt` on:
 //! for a message in `hear.rt`, for Ask and Decision in `decisions.rt`.
 //!
 //! This is how it flushes and sends:
