@@ -44,6 +44,7 @@ def work(rig, options, task):
     elif task[0] == "files":
         made.tear_files()
         made.forget_files()
+        made.begin_over_marks()
     else:
         made.break_calls(options, *task[1:])
     return tally
@@ -157,6 +158,19 @@ class Cluster:
             shutil.rmtree(self.path(node))
             self.is_refused(f"without a file, node {node} lost", self.path(node).rstrip("/").encode(), ADVICE, False)
         self.tally.counts["taken on"] += 1
+
+    def begin_over_marks(self):
+        """No cluster begins over the marks of another: its file is gone, and all areas are emptied or gone."""
+        for how in ("emptied", "gone"):
+            for marked in {self.nodes, 1}:
+                self.put_back()
+                os.remove(os.path.join(self.folder, "cluster"))
+                for node in range(self.nodes):
+                    for name in ("a0", "a1"):
+                        os.truncate(self.path(node, name), 0) if how == "emptied" else os.remove(self.path(node, name))
+                    if node < self.nodes - marked:
+                        os.remove(self.path(node, "node"))
+                self.is_refused(f"no cluster's file, areas {how}, {marked} marks", self.path(0).rstrip("/").encode(), ADVICE, False)
 
     def old(self):
         self.put_back()

@@ -14,7 +14,7 @@ use Rattle.rr_cluster.specs.declared.judging.Fault.TheVariants.{OtherNode, Other
 use Rattle.rr_cluster.specs.declared.judging.Verdict.{Verdict}
 use Rattle.rr_cluster.specs.declared.judging.Verdict.TheVariants.{Open, Begin, TakeOn, Refused}
 use Rattle.rr_cluster.specs.Clusters.{same_identity}
-use Rattle.rr_cluster.specs.Judging.{mark_fault, owner_fault, loss_fault, unmarked_fault, ◌or_else◌, disk_fault, fault_of, at_or, first_fault, refused_or, is_blank, first_identity, identity_or, verdict_of, Each, HasDisk, KeepsItsDisk, Guards}
+use Rattle.rr_cluster.specs.Judging.{mark_fault, owner_fault, loss_fault, unmarked_fault, ◌or_else◌, disk_fault, fault_of, at_or, first_fault, refused_or, is_blank, is_unmarked, is_fresh, first_identity, identity_or, verdict_of, Each, HasDisk, KeepsItsDisk, IsFresh, Guards}
 
 -- ---- one folder
 
@@ -77,9 +77,16 @@ each_of P i n formatted one p (f ∷ fs) none =
     let both = none_here p (fault_of i n formatted p f) (first_fault i n formatted (p + 1) fs) none in
     (one p f both.0, each_of P i n formatted one (p + 1) fs both.1)
 
-blank_each : (p : ℕ) (fs : List Found) → list_all (λ f. is_blank f.content) fs ≡ true → Each (λ q f. is_blank f.content ≡ true) p fs
-blank_each p [] all = tt
-blank_each p (f ∷ fs) all = let both = and_parts (is_blank f.content) (list_all (λ g. is_blank g.content) fs) all in (both.0, blank_each (p + 1) fs both.1)
+no_mark : (m : Option Mark) → is_unmarked m ≡ true → m ≡ None
+no_mark None e = refl
+no_mark (Some m) e = absurd cc
+
+fresh_each : (p : ℕ) (fs : List Found) → list_all is_fresh fs ≡ true → Each IsFresh p fs
+fresh_each p [] all = tt
+fresh_each p (f ∷ fs) all =
+    let both = and_parts (is_fresh f) (list_all is_fresh fs) all in
+    let one = and_parts (is_blank f.content) (is_unmarked f.mark) both.0 in
+    ((one.0, no_mark f.mark one.1), fresh_each (p + 1) fs both.1)
 
 -- ---- the verdict
 
@@ -97,14 +104,14 @@ guards_taken : (n : ℕ) (i : Identity) (named : Option Identity) (fs : List Fou
 guards_taken n i named fs (Some x) is = tt
 guards_taken n i named fs None is = each_of (HasDisk n) i n None (has i n) 0 fs is
 
-guards_folders : (n : ℕ) (fs : List Found) (b : Bool) → list_all (λ f. is_blank f.content) fs ≡ b
+guards_folders : (n : ℕ) (fs : List Found) (b : Bool) → list_all is_fresh fs ≡ b
     → Guards n None fs (cond b Begin (refused_or (first_fault (identity_or (first_identity fs)) n None 0 fs) (TakeOn (first_identity fs))))
-guards_folders n fs true all = blank_each 0 fs all
+guards_folders n fs true all = fresh_each 0 fs all
 guards_folders n fs false some = guards_taken n (identity_or (first_identity fs)) (first_identity fs) fs (first_fault (identity_or (first_identity fs)) n None 0 fs) refl
 
 guards_of : (n : ℕ) (file : Option Cluster) (fs : List Found) → Guards n file fs (verdict_of n file fs)
 guards_of n (Some c) fs = guards_file n c fs (eqb c.nodes n) refl
-guards_of n None fs = guards_folders n fs (list_all (λ f. is_blank f.content) fs) refl
+guards_of n None fs = guards_folders n fs (list_all is_fresh fs) refl
 
 pub verdict_guards : (n : ℕ) (file : Option Cluster) (fs : List Found) (v : Verdict) → v ≡ verdict_of n file fs → Guards n file fs v
 verdict_guards n file fs v is = subst (λ (w : Verdict). Guards n file fs w) (sym is) (guards_of n file fs)

@@ -1,5 +1,5 @@
 -- Whether the folders of a cluster may be opened, by what was found in each, from node 0 on.
-use Rattle.std.specs.Prelude.{◌≡◌, ℕ, ◌+◌, ◌==◌, if◌then◌else◌, Bool, true, false, List, [], ◌∷◌, Option, None, Some}
+use Rattle.std.specs.Prelude.{◌≡◌, ℕ, ◌+◌, ◌==◌, ◌&&◌, if◌then◌else◌, Bool, true, false, List, [], ◌∷◌, Option, None, Some}
 use Rattle.std.specs.List.{list_all}
 use Rattle.rr_types.specs.Nodes.{has_member}
 use Rattle.rr_cluster.specs.declared.cluster.Identity.{Identity}
@@ -77,6 +77,15 @@ is_blank contents.Blank = true
 is_blank (contents.Cut) = false
 is_blank (contents.Holds q m) = false
 
+-- whether nobody has marked a folder
+abbrev pub is_unmarked : Option Mark → Bool
+is_unmarked None = true
+is_unmarked (Some m) = false
+
+-- whether a folder has neither a disk nor a mark
+abbrev pub is_fresh : Found → Bool
+is_fresh f = is_blank f.content && is_unmarked f.mark
+
 -- the cluster that a folder names by its mark, else another
 abbrev pub marked_or : Option Mark → Option Identity → Option Identity
 marked_or None other = other
@@ -98,10 +107,10 @@ abbrev pub identity_or : Option Identity → Identity
 identity_or None = record { first = 0; second = 0 }
 identity_or (Some i) = i
 
--- without a cluster's file: a new cluster where no folder has a disk, else one that is taken on if its folders agree
+-- without a cluster's file: a new cluster where no folder has a disk or a mark, else one that is taken on if its folders agree
 abbrev pub verdict_by_folders : ℕ → List Found → Verdict
 verdict_by_folders n found =
-    if list_all (λ f. is_blank f.content) found then Begin
+    if list_all is_fresh found then Begin
     else refused_or (first_fault (identity_or (first_identity found)) n None 0 found) (TakeOn (first_identity found))
 
 -- whether so many nodes may be opened
@@ -128,13 +137,17 @@ IsMarked i p f = f.mark ≡ Some (record { identity = i; node = p })
 abbrev pub KeepsItsDisk : Cluster → ℕ → Found → Type 0
 KeepsItsDisk c p f = has_member c.formatted p ≡ true → HasDisk c.nodes p f × IsMarked c.identity p f
 
--- what may be relied on: a cluster is opened only as what its file says; nodes are begun only where no folder has a disk; and
--- a cluster without a file is taken on only where each folder has its node's disk
+-- a folder without a disk and without a mark: no node was ever in it
+abbrev pub IsFresh : ℕ → Found → Type 0
+IsFresh p f = (is_blank f.content ≡ true) × (f.mark ≡ None)
+
+-- what may be relied on: a cluster is opened only as what its file says; nodes are begun only where no folder has a disk or a
+-- mark; and a cluster without a file is taken on only where each folder has its node's disk
 abbrev pub Guards : ℕ → Option Cluster → List Found → Verdict → Type 0
 Guards n None found (Open d) = ⊥
 Guards n (Some c) found (Open d) = (d ≡ c) × (c.nodes ≡ n) × Each (KeepsItsDisk c) 0 found
 Guards n (Some c) found Begin = ⊥
-Guards n None found Begin = Each (λ p f. is_blank f.content ≡ true) 0 found
+Guards n None found Begin = Each IsFresh 0 found
 Guards n (Some c) found (TakeOn i) = ⊥
 Guards n None found (TakeOn i) = Each (HasDisk n) 0 found
 Guards n file found (Refused p x) = Unit {0}

@@ -3,7 +3,7 @@
 ghost use Rattle.std.specs.Prelude.{◌≡◌, ◌+◌, ◌≤◌, ◌<◌, length, option_map, Option, Some, None};
 ghost use Rattle.std.specs.List.{list_all};
 ghost use Rattle.rr_types.specs.Limits.{max_nodes};
-ghost use Rattle.rr_cluster.specs.Judging.{mark_fault, owner_fault, loss_fault, disk_fault, fault_of, first_fault, is_blank, first_identity, verdict_by_file, verdict_by_folders, verdict_of, Guards};
+ghost use Rattle.rr_cluster.specs.Judging.{mark_fault, owner_fault, loss_fault, disk_fault, fault_of, first_fault, is_blank, is_fresh, first_identity, verdict_by_file, verdict_by_folders, verdict_of, Guards};
 
 use crate::cluster::{Cluster, Identity, Mark};
 use crate::front::Content;
@@ -162,13 +162,20 @@ fn is_blank(content: Content) -> bool
     matches!(content, Content::Absent | Content::Blank)
 }
 
-// Whether no folder has a disk.
-fn are_blank(found: &[Found]) -> bool
-    ensures { result ≡ list_all (λ f. is_blank f.content) found.now }
+// Whether a folder has neither a disk nor a mark.
+fn is_fresh(found: &Found) -> bool
+    ensures { result ≡ is_fresh found.now }
+{
+    is_blank(found.content) && found.mark.is_none()
+}
+
+// Whether no folder has a disk or a mark.
+fn are_fresh(found: &[Found]) -> bool
+    ensures { result ≡ list_all is_fresh found.now }
 {
     match found {
         [] => true,
-        [first, rest @ ..] => is_blank(first.content) && are_blank(rest),
+        [first, rest @ ..] => is_fresh(first) && are_fresh(rest),
     }
 }
 
@@ -213,7 +220,7 @@ fn by_folders(nodes: Nodes, found: &[Found]) -> Verdict
     ensures { result ≡ verdict_by_folders nodes found.now }
 {
     let _count = nodes.count();
-    if are_blank(found) {
+    if are_fresh(found) {
         return Verdict::Begin;
     }
     let named = first_identity(found);
@@ -241,7 +248,7 @@ fn by_folders(nodes: Nodes, found: &[Found]) -> Verdict
 pub fn judge(nodes: Nodes, file: Option<&Cluster>, found: &[Found]) -> Verdict
     requires { length found.now ≡ nodes }
     ensures verdict { result ≡ verdict_of nodes (option_map (λ c. c.now) file.entry) found.now }
-    // No node that has been formatted is taken for a fresh one.
+    // No node that has been formatted is taken for a fresh one, and none begins in a folder that one has marked.
     ensures guards { Guards nodes (option_map (λ c. c.now) file.entry) found.now result }
 {
     match file {
