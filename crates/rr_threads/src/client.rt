@@ -1,4 +1,7 @@
 //! Clients of a node, and what they ask it with.
+//!
+//! No contract knows what lies on a counter, under the node's lock or in an atomic. So when a node goes down, which snapshot is asked for,
+//! and whose promise and which reused numbers are told has no clause: `is_over`, `snapshot`, `promise`, `reused` and `serve` are read.
 
 ghost use Rattle.std.specs.Prelude.{◌≡◌, ◌⊎◌, ◌+◌, ◌<◌, ◌≤◌, None, length, IfSome, IfOk, OnOk, OnErr, IfErr};
 ghost use mathlib.Core.List.{IsPrefix};

@@ -1,4 +1,7 @@
 //! What the threads of a node share.
+//!
+//! No contract knows what lies under a lock or in an atomic. What is done to it there has its clauses at `Waiting` and `Count`. The calls of
+//! `Counter`, `Snapshots` and `Desk` that reach it are a line or two each, and are read: that they do it, and that they ring behind it.
 
 ghost use Rattle.std.specs.Prelude.{◌≡◌, ◌<◌, ◌≤◌, ◌+◌, ◌^◌, min, true, false, Some, IfNone, IfSome};
 ghost use Rattle.rr_types.specs.Registry.{is_same_request, reply_of};

@@ -1,4 +1,6 @@
 //! A flusher.
+//!
+//! When its loop ends, and that what became of a group comes to be taken, is in no contract: `flush_all` and `give_back` are read.
 
 ghost use Rattle.rr_turn.specs.Asked.{Call};
 

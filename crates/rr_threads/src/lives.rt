@@ -1,4 +1,7 @@
 //! The lives of a node: from each start to the stop behind it.
+//!
+//! A thread's result is known by no contract, nor is what a switch says. So that a life follows each start, with the disk and the clients
+//! of the one before, and that a run is over where one fails is read: `live`, `leave_all`, `run_lives`.
 
 ghost use Rattle.std.specs.Prelude.{◌≡◌, ◌<◌, Some, IfOk, IfSome};
 

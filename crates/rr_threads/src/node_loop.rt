@@ -1,4 +1,6 @@
 //! The loop of a node.
+//!
+//! A turn has its clauses in rr_turn. That turn follows turn until the node goes down is read: `run_turns`, `run_node`.
 
 ghost use Rattle.std.specs.Prelude.{◌≡◌, IfOk, OnOk};
 ghost use Rattle.std.specs.Duration.{as_nanos};

@@ -1,4 +1,7 @@
 //! The threads of a node.
+//!
+//! No contract says that a thread runs, nor what it gives at its end. So which threads are started and joined, and that they work over what
+//! they are given, is read: the calls named `start_..` and `join..`, `run_threads` and `run_crew`.
 
 ghost use Rattle.std.specs.Prelude.{◌≡◌, length, map, vec_len, IfOk};
 ghost use Rattle.std.specs.List.{range_with_len};

@@ -1,4 +1,6 @@
 //! A publisher.
+//!
+//! A turn has its clauses in rr_turn. That turn follows turn until the node goes down is read: `publish_all`.
 
 ghost use Rattle.std.specs.Prelude.{◌≡◌, [], OnOk};
 ghost use Rattle.rr_model.specs.NodeState.{NodeState, decided_prefix};

@@ -1,4 +1,6 @@
 //! The tape of a run, under a lock of its own.
+//!
+//! No contract knows what lies under the lock. That `into_tape` gives what was recorded there is read.
 
 ghost use Rattle.std.specs.Prelude.{◌≡◌, ◌&&◌, is_some, [], Some, None, IfOk, IfErr, IfNone, IfSome, IsSome, OnOk};
 ghost use Rattle.rr_types.specs.Registry.{reply_of};

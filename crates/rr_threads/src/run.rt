@@ -1,4 +1,6 @@
 //! Runs of 1 to 7 nodes, for clients of any kind.
+//!
+//! No contract says that a thread runs. That each node gets one, and which refusal a run has, is read: `start_node`, `start_all`, `run_scope`.
 
 ghost use Rattle.std.specs.Prelude.{◌≡◌, ◌<◌, length, IfOk};
 ghost use Rattle.std.specs.Duration.{as_nanos};

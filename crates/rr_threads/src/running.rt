@@ -1,4 +1,7 @@
 //! How a run ends, and how its nodes are rung.
+//!
+//! What is counted has its clauses at `Ending` of rr_locked. That it lies under the lock, and that all are rung once the run is over, is read:
+//! a line or two each.
 
 ghost use Rattle.std.specs.Prelude.{◌≡◌};
 

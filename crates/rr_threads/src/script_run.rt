@@ -1,4 +1,7 @@
 //! Runs of a script: a client of each node asks what the lines ask of it.
+//!
+//! What the clients put under locks no contract knows. So that each line is asked once, and answered at its place, is read: `Reader::run`,
+//! `in_order`.
 
 ghost use Rattle.std.specs.Prelude.{◌≡◌, true, length, IfOk};
 ghost use Rattle.rr_threads.specs.Reusing.{are_reused};

@@ -1,4 +1,6 @@
 //! What all threads of a run share.
+//!
+//! No contract knows what a switch says, nor whether a run is over. When a life ends by them is `ends`; that they are asked for it is read.
 
 ghost use Rattle.std.specs.Prelude.{◌≡◌, ◌||◌, ◌==◌, false, not};
 ghost use Rattle.std.specs.Option.{option_map_or};

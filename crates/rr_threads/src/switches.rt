@@ -1,4 +1,7 @@
 //! Switches by which the nodes of a run are stopped and started again.
+//!
+//! No contract knows what an atomic holds. What a count of moves means has its clauses (`is_even`, `if_on`). That a switch is moved, noted and
+//! looked at is read: a line or two each.
 
 ghost use Rattle.std.specs.Prelude.{◌≡◌, ◌%◌, ◌==◌, if◌then◌else◌, None, Some, vec_len, IfOk};
 

@@ -1,5 +1,5 @@
 //! What the thread of a node calls in a turn, over the real inboxes, hand-overs, bells and clients. A contract says what becomes of an event
-//! of the node, into which inbox a message is put, what is late, what is taken, and whose bell is rung. What the others hold no contract
+//! of the node, by which way a message is put, what is late, what is taken, and whose bell is rung. What the others hold no contract
 //! knows: each of those calls is a few lines, to be read.
 
 ghost use Rattle.std.specs.Prelude.{◌≡◌, None};

@@ -1,4 +1,7 @@
 //! Bells, by which the threads of a run wake one another.
+//!
+//! No contract says that a thread runs, so none says that a ring wakes one: each `ring` is proved without its `unpark` too. These three lines
+//! are read, and `hostile/shells.py` measures how soon a shell answers.
 
 ghost use Rattle.std.specs.Prelude.{◌≡◌, map, vec_len, IfOk};
 ghost use Rattle.std.specs.List.{range_with_len};
