@@ -5,5 +5,6 @@ pub mod Receipts
 pub mod Majorities
 pub mod Votes
 pub mod Owing
+pub mod Passed
 pub mod Same
 pub mod Staging
