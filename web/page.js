@@ -25,9 +25,7 @@ const nodes = origins.length;
 const [, full_width, height] = /viewBox="0 0 (\d+) (\d+)"/.exec(front).map(Number);
 
 // What an event stands on directly: the event before it at its node and, of a message that is heard, where that was sent.
-const previous = new Int32Array(events.length).fill(-1);
-const following = new Int32Array(events.length).fill(-1);
-const sending = new Int32Array(events.length).fill(-1);
+const [previous, following, sending] = [0, 1, 2].map(() => new Int32Array(events.length).fill(-1));
 const hearings = new Map();
 const counts = new Int32Array(nodes);
 
@@ -55,8 +53,7 @@ const effects = (index) => [...new Set([following[index], ...(hearings.get(index
 
 // What an event depends on is, of each node, its first events: `before` has how many. What depends on it is each node's events
 // from one on: `after` has its rank.
-const before = new Int32Array(events.length * nodes);
-const after = new Int32Array(events.length * nodes);
+const [before, after] = [0, 1].map(() => new Int32Array(events.length * nodes));
 
 // An event depends on its cause, and on what that depends on.
 function join_before(index, cause) {
@@ -200,14 +197,9 @@ const decisions = find_decisions();
 
 // The picture's items in their order: marks of a line each, and elements of an event each. Of each: where its text begins and
 // ends, how far down it reaches from and to, and its event. `items` has the item of each event, or -1 where a cut leaves it out.
-const begins = [];
-const ends = [];
-const tops = [];
-const bottoms = [];
-const owners = [];
+const [begins, ends, tops, bottoms, owners] = [[], [], [], [], []];
 const items = new Int32Array(events.length).fill(-1);
-const crash_heights = [];
-const decided_heights = [];
+const [crash_heights, decided_heights] = [[], []];
 
 // How far down the numbers of shapes reach: those of marks and boxes, and of paths. Words have none of a path.
 const HEIGHTS = / c?y[12]?="(\d+)"(?: width="\d+" height="(\d+)")?|[MC ]\d+ (\d+)|V(\d+)/g;
@@ -315,6 +307,7 @@ function lay_out() {
   at("sheet").style.height = `${(height - FIRST) * unit}px`;
   drawn = undefined;
   draw_window();
+  draw_lanes();
   draw_strip();
 }
 
@@ -342,10 +335,7 @@ function laid_out(markup) {
 }
 
 // What is chosen and found: the event that keys go on from, whether it is marked with what depends on it, and which events match.
-let chosen;
-let is_marked = false;
-let is_filtered = false;
-let matches = [];
+let [chosen, is_marked, is_filtered, matches] = [undefined, false, false, []];
 const hits = new Uint8Array(events.length);
 
 function classes_of(index) {
@@ -416,18 +406,44 @@ function draw_lane(brush, left, heights, color) {
   brush.globalAlpha = 1;
 }
 
-function draw_strip() {
+// Of each row of the strip and each node, the ranks of its first and its last event there; and the lanes that no click changes.
+let rows;
+
+function draw_lanes() {
   const strip = at("strip");
   [strip.width, strip.height] = [strip.clientWidth, Math.max(1, strip.clientHeight)];
-  const brush = strip.getContext("2d");
-  const color = (name) => getComputedStyle(at("legend")).getPropertyValue(name).trim();
-  draw_lane(brush, 2, decided_heights, color("--dec"));
-  draw_lane(brush, 14, crash_heights, color("--bad"));
-  const heights = (holds) => events.filter((event, index) => event.y && holds(index)).map((event) => event.y);
-  if (is_marked) {
-    draw_lane(brush, 26, heights((index) => is_past(index, chosen)), color("--past"));
-    draw_lane(brush, 26, heights((index) => is_future(index, chosen)), color("--future"));
-  } else if (is_filtered) draw_lane(brush, 26, heights((index) => hits[index]), color("--link"));
+  const brush = strip.getContext("2d", { willReadFrequently: true });
+  draw_lane(brush, 2, decided_heights, color_of("--dec"));
+  draw_lane(brush, 14, crash_heights, color_of("--bad"));
+  const cells = strip.height * nodes;
+  rows = { first: new Int32Array(cells).fill(events.length), last: new Int32Array(cells).fill(-1), lanes: brush.getImageData(0, 0, strip.width, strip.height) };
+  for (const { y, node, rank } of events) {
+    if (!y) continue;
+    const cell = Math.floor((y - FIRST) / (height - FIRST) * strip.height) * nodes + node;
+    rows.first[cell] = Math.min(rows.first[cell], rank);
+    rows.last[cell] = Math.max(rows.last[cell], rank);
+  }
+}
+
+const color_of = (name) => getComputedStyle(at("legend")).getPropertyValue(name).trim();
+
+// What the chosen event depends on, and what depends on it.
+function draw_marked(brush) {
+  for (const [color, holds] of [
+    [color_of("--past"), (cell, node) => rows.first[cell] < before[chosen * nodes + node]],
+    [color_of("--future"), (cell, node) => rows.last[cell] >= after[chosen * nodes + node]],
+  ]) {
+    brush.fillStyle = color;
+    for (let cell = 0; cell < rows.first.length; cell += 1) if (holds(cell, cell % nodes)) brush.fillRect(26, Math.floor(cell / nodes), 10, 1);
+  }
+}
+
+function draw_strip() {
+  const strip = at("strip");
+  const brush = strip.getContext("2d", { willReadFrequently: true });
+  brush.putImageData(rows.lanes, 0, 0);
+  if (is_marked) draw_marked(brush);
+  else if (is_filtered) draw_lane(brush, 26, matches.map((index) => events[index].y).filter((y) => y), color_of("--link"));
   strip.lanes = brush.getImageData(0, 0, strip.width, strip.height);
   draw_frame();
 }
@@ -435,7 +451,7 @@ function draw_strip() {
 // The frame around what is in sight, and the height of the chosen event.
 function draw_frame() {
   const strip = at("strip");
-  const brush = strip.getContext("2d");
+  const brush = strip.getContext("2d", { willReadFrequently: true });
   const row = (y) => (y - FIRST) / (height - FIRST) * strip.height;
   const { top, bottom } = sight();
   brush.putImageData(strip.lanes, 0, 0);
@@ -497,8 +513,7 @@ function list(indexes) {
 
 // The title of an event as a reader sees it.
 function title_text(index) {
-  const spelled = new DOMParser().parseFromString(title_of(index), "text/html");
-  return spelled.documentElement.textContent;
+  return unspelled(title_of(index));
 }
 
 function describe(index) {
@@ -663,9 +678,7 @@ function listen() {
   });
   at("before").addEventListener("click", () => go(-1, false));
   at("clear").addEventListener("click", clear);
-  at("in").addEventListener("click", actions["+"]);
-  at("out").addEventListener("click", actions["-"]);
-  at("whole").addEventListener("click", actions[0]);
+  for (const [id, key] of [["in", "+"], ["out", "-"], ["whole", 0]]) at(id).addEventListener("click", actions[key]);
   at("picture").addEventListener("wheel", follow_wheel, { passive: false });
   at("picture").addEventListener("scroll", () => {
     draw_window();
