@@ -1,97 +1,494 @@
 "use strict";
 // The page's script. Its data are the lines that `rr sim --explain --json` prints; the picture is the one that `rr draw` prints.
+// Neither is walked as a whole after the page is open: what depends on what, and what is in sight, is looked up in tables.
 const at = (id) => document.getElementById(id);
-const objects = at("data").textContent.split("\n").filter((line) => line !== "").map((line) => JSON.parse(line));
-const svg = document.querySelector("#picture svg");
 
-// An event: its line, its words, its kind and node, and the message that it sends or hears, if any.
+// Both stand in elements whose text a browser takes as it is, since that opens fastest; of the data, HTML's spellings are undone here.
+const unspelled = (text) => text.replaceAll("&quot;", '"').replaceAll("&lt;", "<").replaceAll("&gt;", ">").replaceAll("&amp;", "&");
+const objects = JSON.parse(`[${unspelled(at("data").textContent).trim().replaceAll("\n", ",")}]`);
+const FIELDS = ["words", "node", "kind", "instance"];
+
+// An event: its line, its words, its kind and node, its place among its node's events, and the message that it sends or hears.
 const events = objects.filter((object) => object.event).map((object) => {
-  const words = object.event.text.split(" ");
-  return { object, line: object.event.line, text: object.event.text, note: object.event.note, kind: words[0], node: Number(words[1]), words, shape: null };
+  const { line, text, note } = object.event;
+  const words = text.split(" ");
+  return { object, line, text, note, words, kind: words[0], node: Number(words[1]), rank: 0, message: object.kind === "send" ? object.message : undefined };
 });
 const place = new Map(events.map((event, index) => [event.line, index]));
-const sends = new Map();
-events.forEach((event, index) => {
-  if (event.object.kind === "send") {
-    sends.set(event.object.number, index);
-    event.message = event.object.message;
-  }
-});
 
-// What an event stands on: the event before it at its node and, of a message that is heard, where that was sent.
-const causes = events.map(() => []);
-const effects = events.map(() => []);
-const last = new Map();
-events.forEach((event, index) => {
-  const before = last.get(event.node);
-  const sent = event.kind === "hear" && event.object.kind === "done" ? sends.get(Number(event.words[2])) : undefined;
-  for (const cause of [before, sent]) {
-    if (cause !== undefined) {
-      causes[index].push(cause);
-      effects[cause].push(index);
-    }
-  }
-  if (sent !== undefined) event.message = events[sent].message;
-  last.set(event.node, index);
-});
+// The picture: its text, and the places of the nodes' lines from the left. All nodes have one, also those that never start.
+const source = at("source").textContent;
+const body = source.indexOf('<path class="z"');
+const front = source.slice(0, body);
+const origins = [...source.matchAll(/<text class="h" x="(\d+)"/g)].map((found) => Number(found[1]));
+const nodes = origins.length;
+const [, full_width, height] = /viewBox="0 0 (\d+) (\d+)"/.exec(front).map(Number);
 
-function reached(from, next) {
-  const found = new Set();
-  const waiting = [...next[from]];
-  while (waiting.length > 0) {
-    const index = waiting.pop();
-    if (!found.has(index)) {
-      found.add(index);
-      waiting.push(...next[index]);
-    }
+// What an event stands on directly: the event before it at its node and, of a message that is heard, where that was sent.
+const [previous, following, sending] = [0, 1, 2].map(() => new Int32Array(events.length).fill(-1));
+const hearings = new Map();
+const counts = new Int32Array(nodes);
+
+function find_causes() {
+  const sends = new Map();
+  const last = new Int32Array(nodes).fill(-1);
+  events.forEach((event, index) => {
+    previous[index] = last[event.node];
+    if (last[event.node] >= 0) following[last[event.node]] = index;
+    last[event.node] = index;
+    event.rank = counts[event.node]++;
+    if (event.object.kind === "send") sends.set(event.object.number, index);
+    const sent = event.kind === "hear" && event.object.kind === "done" ? sends.get(Number(event.words[2])) : undefined;
+    if (sent === undefined) return;
+    sending[index] = sent;
+    event.message = events[sent].message;
+    if (!hearings.has(sent)) hearings.set(sent, []);
+    hearings.get(sent).push(index);
+  });
+}
+
+find_causes();
+const causes = (index) => [...new Set([previous[index], sending[index]])].filter((cause) => cause >= 0).sort((one, other) => one - other);
+const effects = (index) => [...new Set([following[index], ...(hearings.get(index) ?? [])])].filter((effect) => effect >= 0).sort((one, other) => one - other);
+
+// What an event depends on is, of each node, its first events: `before` has how many. What depends on it is each node's events
+// from one on: `after` has its rank.
+const [before, after] = [0, 1].map(() => new Int32Array(events.length * nodes));
+
+// An event depends on its cause, and on what that depends on.
+function join_before(index, cause) {
+  if (cause < 0) return;
+  const [to, from] = [index * nodes, cause * nodes];
+  for (let node = 0; node < nodes; node += 1) if (before[from + node] > before[to + node]) before[to + node] = before[from + node];
+  const { node, rank } = events[cause];
+  if (rank >= before[to + node]) before[to + node] = rank + 1;
+}
+
+function join_after(cause, index) {
+  if (cause < 0) return;
+  const [to, from] = [cause * nodes, index * nodes];
+  for (let node = 0; node < nodes; node += 1) if (after[from + node] < after[to + node]) after[to + node] = after[from + node];
+  const { node, rank } = events[index];
+  if (rank < after[to + node]) after[to + node] = rank;
+}
+
+function find_clocks() {
+  for (let index = 0; index < events.length; index += 1) {
+    after.set(counts, index * nodes);
+    join_before(index, previous[index]);
+    join_before(index, sending[index]);
   }
-  return found;
+  for (let index = events.length - 1; index >= 0; index -= 1) {
+    join_after(previous[index], index);
+    join_after(sending[index], index);
+  }
+}
+
+find_clocks();
+const is_past = (index, of) => events[index].rank < before[of * nodes + events[index].node];
+const is_future = (index, of) => events[index].rank >= after[of * nodes + events[index].node];
+
+function sizes(index) {
+  let [past, future] = [0, 0];
+  for (let node = 0; node < nodes; node += 1) {
+    past += before[index * nodes + node];
+    future += counts[node] - after[index * nodes + node];
+  }
+  return [past, future];
 }
 
 // What an event speaks of: its client, request, name and instance, as far as its words and its message have them.
 for (const event of events) {
   const { object, words, message } = event;
   const command = message?.command;
+  const is_submit = event.kind === "submit";
   event.instance = message?.instance;
-  event.client = command?.client ?? object.client ?? (event.kind === "submit" ? Number(words[2]) : undefined);
-  event.request = command?.request ?? object.request ?? (event.kind === "submit" ? Number(words[3]) : undefined);
-  event.name = command?.name ?? (event.kind === "submit" ? words[5] : undefined);
+  event.client = command?.client ?? object.client ?? (is_submit ? Number(words[2]) : undefined);
+  event.request = command?.request ?? object.request ?? (is_submit ? Number(words[3]) : undefined);
+  event.name = command?.name ?? (is_submit ? words[5] : undefined);
 }
 
-// The event that decided an instance: the hearing of the ack that completes a majority for a round.
-const nodes = 1 + Math.max(0, ...events.map((event) => event.node));
-const decisions = new Map();
-const proposed = new Map();
-const acks = new Map();
-events.forEach((event, index) => {
-  const message = event.message;
-  if (message?.kind === "proposal") proposed.set(`${message.instance}.${message.round}`, message.command);
-  if (event.kind === "hear" && message?.kind === "ack") {
-    const round = `${message.instance}.${message.round}`;
-    const from = acks.get(round) ?? new Set();
-    acks.set(round, from.add(events[sends.get(Number(event.words[2]))].node));
-    if (2 * from.size > nodes && proposed.has(round)) {
-      const { client, request } = proposed.get(round);
-      if (!decisions.has(`${client}.${request}`)) decisions.set(`${client}.${request}`, { index, instance: message.instance });
+// The hearings of acks that can have decided an instance: each completes a majority for a round, counted since its node is open.
+// A node forgets what it counted in a crash.
+function find_majorities() {
+  const majorities = new Map();
+  const tallies = new Map();
+  const lives = new Int32Array(nodes);
+  events.forEach(({ object, kind, node, message }, index) => {
+    if (object.kind === "restart") lives[node] += 1;
+    if (kind !== "hear" || message?.kind !== "ack") return;
+    const key = `${node}.${lives[node]}.${message.instance}.${message.round}`;
+    if (!tallies.has(key)) tallies.set(key, new Set());
+    const tally = tallies.get(key);
+    const size = tally.size;
+    tally.add(events[sending[index]].node);
+    if (2 * size > nodes || 2 * tally.size <= nodes) return;
+    if (!majorities.has(message.instance)) majorities.set(message.instance, []);
+    majorities.get(message.instance).push({ index, node, life: lives[node], round: message.round });
+  });
+  return majorities;
+}
+
+// What each node tells of each instance, and when: the rounds that it is in, that it knows the decision, and that it hears of one.
+// A reply tells that it knows the decisions up to that of the request, and an opening how many were kept in the life before.
+class Tellings {
+  constructor() {
+    this.of = new Map();
+    this.lives = new Int32Array(nodes);
+    this.known = new Int32Array(nodes);
+    const requests = objects.filter((object) => object.kind === "command").reverse();
+    this.places = new Map(requests.map(({ place: instance, command }) => [`${command.client}.${command.request}`, instance]));
+    events.forEach((event, index) => this.read(event, index));
+  }
+
+  add(node, instance, telling) {
+    const key = `${node}.${instance}`;
+    if (!this.of.has(key)) this.of.set(key, []);
+    this.of.get(key).push({ life: this.lives[node], ...telling });
+  }
+
+  knows(index, node, count) {
+    for (; this.known[node] < count; this.known[node] += 1) this.add(node, this.known[node], { index, is_decision: true });
+  }
+
+  read({ object, kind, node, message }, index) {
+    if (object.kind === "restart") {
+      this.knows(index, node, object.decided);
+      this.lives[node] += 1;
+    } else if (object.kind === "ack") {
+      this.knows(index, node, 1 + (this.places.get(`${object.client}.${object.request}`) ?? -1));
+    } else if (message?.kind === "decision") {
+      this.add(node, message.instance, { index, is_decision: true, is_heard: kind === "hear" });
+    } else if (kind === "send" && ["estimate", "proposal", "ack"].includes(message?.kind)) {
+      this.add(node, message.instance, { index, round: message.round });
     }
   }
-});
+}
 
-// The shapes of events in the picture.
-svg.setAttribute("role", "group");
-svg.setAttribute("aria-label", `${events.length} events`);
-for (const shape of svg.querySelectorAll("g")) {
-  const title = shape.querySelector("title");
-  const found = title && /^line (\d+): /.exec(title.textContent);
-  const event = found && events[place.get(Number(found[1]))];
-  if (event) {
-    shape.dataset.line = event.line;
-    shape.setAttribute("role", "button");
-    shape.setAttribute("tabindex", "-1");
-    shape.setAttribute("aria-label", title.textContent.trim().replaceAll("\n", "; "));
-    event.shape = shape;
-    event.title = title.textContent.trim();
+// Whether a majority decided: yes where its node tells the decision in the same life, and nobody had told it that; no where the node
+// had gone on to another round or knew the decision. Else it is open: `undefined`.
+function has_decided({ index, node, life, round }, told) {
+  for (const telling of told) {
+    const is_earlier = telling.index < index;
+    if (telling.is_heard) return is_earlier && telling.life === life ? false : undefined;
+    if (telling.is_decision && is_earlier) return false;
+    if (telling.life > life) return undefined;
+    if (telling.is_decision) return true;
+    if (telling.round > round) return false;
   }
+  return undefined;
+}
+
+// The event that decided an instance, by the instance. Where the data leave that open, the instance isn't in it.
+function find_decisions() {
+  const decisions = new Map();
+  const tellings = new Tellings();
+  for (const [instance, majorities] of find_majorities()) {
+    for (const majority of majorities) {
+      const has = has_decided(majority, tellings.of.get(`${majority.node}.${instance}`) ?? []);
+      if (has) decisions.set(instance, majority.index);
+      if (has !== false) break;
+    }
+  }
+  return decisions;
+}
+
+const decisions = find_decisions();
+
+// The picture's items in their order: marks of a line each, and elements of an event each. Of each: where its text begins and
+// ends, how far down it reaches from and to, and its event. `items` has the item of each event, or -1 where a cut leaves it out.
+const [begins, ends, tops, bottoms, owners] = [[], [], [], [], []];
+const items = new Int32Array(events.length).fill(-1);
+const [crash_heights, decided_heights] = [[], []];
+
+// How far down the numbers of shapes reach: those of marks and boxes, and of paths. Words have none of a path.
+const HEIGHTS = / c?y[12]?="(\d+)"(?: width="\d+" height="(\d+)")?|[MC ]\d+ (\d+)|V(\d+)/g;
+const HEIGHT = / y="(\d+)"/;
+
+// Where shapes begin and end, from above.
+function extent(shapes) {
+  if (shapes.startsWith("<text")) {
+    const y = Number(HEIGHT.exec(shapes)[1]);
+    return [y, y];
+  }
+  let [top, bottom] = [Infinity, 0];
+  HEIGHTS.lastIndex = 0;
+  for (let found = HEIGHTS.exec(shapes); found; found = HEIGHTS.exec(shapes)) {
+    const y = Number(found[1] ?? found[3] ?? found[4]);
+    top = Math.min(top, y);
+    bottom = Math.max(bottom, y + Number(found[2] ?? 0));
+  }
+  return [top, bottom];
+}
+
+function read_item(begin, end, is_event) {
+  const item = begins.length;
+  const shapes = source.slice(is_event ? source.indexOf("</title>", begin) : begin, end);
+  const [top, bottom] = extent(shapes);
+  const index = is_event ? place.get(Number.parseInt(source.slice(begin + 15, begin + 30), 10)) ?? -1 : -1;
+  begins.push(begin);
+  ends.push(end);
+  tops.push(top - 8);
+  bottoms.push(bottom + 8);
+  owners.push(index);
+  if (index < 0) return;
+  items[index] = item;
+  events[index].y = Number(/<rect class="x" x="\d+" y="(\d+)"/.exec(shapes)[1]) + 2;
+  if (shapes.includes('href="#x"')) crash_heights.push(events[index].y);
+  if (shapes.includes('href="#k"')) decided_heights.push(events[index].y);
+}
+
+function read_items() {
+  let begin = body;
+  while (begin >= 0 && begin < source.length && !source.startsWith("</svg>", begin)) {
+    const is_event = source.startsWith("<g>", begin);
+    const end = is_event ? source.indexOf("</g>\n", begin) + 4 : source.indexOf("\n", begin);
+    const is_head = source.startsWith('<path class="z"', begin);
+    if (!is_head) read_item(begin, end, is_event);
+    begin = end + 1;
+  }
+}
+
+// The items by their height: level k has those that are lower than SLOT times 2^k, in slots as high, each in the slot of its top.
+const SLOT = 256;
+const levels = [];
+
+function fill_levels() {
+  for (let item = 0; item < begins.length; item += 1) {
+    const level = Math.max(0, Math.ceil(Math.log2((bottoms[item] - tops[item] + 1) / SLOT)));
+    while (levels.length <= level) levels.push(new Map());
+    const slot = Math.floor(tops[item] / (SLOT * 2 ** level));
+    if (!levels[level].has(slot)) levels[level].set(slot, []);
+    levels[level].get(slot).push(item);
+  }
+}
+
+// The items between two heights, in their order.
+function items_within(top, bottom) {
+  const found = [];
+  levels.forEach((slots, level) => {
+    const tall = SLOT * 2 ** level;
+    for (let slot = Math.floor(top / tall) - 1; slot <= Math.floor(bottom / tall); slot += 1) {
+      for (const item of slots.get(slot) ?? []) if (tops[item] <= bottom && bottoms[item] >= top) found.push(item);
+    }
+  });
+  return found.sort((one, other) => one - other);
+}
+
+read_items();
+fill_levels();
+
+function title_of(index) {
+  const item = items[index];
+  if (item < 0) return "";
+  const begin = begins[item] + "<g><title>".length;
+  return source.slice(begin, source.indexOf("</title>", begin)).trim();
+}
+
+// How the picture is laid out: the size of a unit in pixels, how many units are across, and where the nodes' lines are. Where
+// there is less room than the picture wants, the lines stand nearer to each other, and everything beside them keeps its size.
+const FIRST = 50;
+let zoom = 1;
+let layout;
+
+function lay_out() {
+  const room = at("picture").clientWidth;
+  const base = room < 500 ? 1.2 : 1.5;
+  const unit = base * zoom;
+  const width = Math.min(full_width, (room / base) * Math.max(zoom, 1 / zoom));
+  const share = width / full_width;
+  const right = Math.max(60, (full_width - origins.at(-1)) * share);
+  const left = Math.max(64, origins[0] * share);
+  const gap = nodes > 1 ? Math.max(14, (width - left - right) / (nodes - 1)) : 0;
+  const columns = share === 1 ? origins : origins.map((_, node) => Math.round(left + gap * node));
+  layout = { unit, width: share === 1 ? full_width : Math.max(width, columns.at(-1) + 20), columns, gap: share === 1 ? 220 : gap };
+  draw_names();
+  at("sheet").style.width = `${layout.width * unit}px`;
+  at("sheet").style.height = `${(height - FIRST) * unit}px`;
+  drawn = undefined;
+  draw_window();
+  draw_lanes();
+  draw_strip();
+}
+
+function draw_names() {
+  const { unit, width, columns, gap } = layout;
+  const word = gap < 36 && nodes > 1 ? "" : "node ";
+  at("names").setAttribute("viewBox", `0 0 ${width} 14`);
+  at("names").style.width = `${width * unit}px`;
+  at("names").style.height = `${14 * unit}px`;
+  at("names").innerHTML = columns.map((x, node) => `<text class="h" x="${x}" y="10">${word}${node}</text>`).join("");
+}
+
+// A place from the left, as it is laid out: as far from its node's line as in the picture.
+function x_of(x) {
+  if (x < 40) return x;
+  const step = nodes > 1 ? origins[1] - origins[0] : 1;
+  const node = Math.min(nodes - 1, Math.max(0, Math.round((x - origins[0]) / step)));
+  return layout.columns[node] + x - origins[node];
+}
+
+function laid_out(markup) {
+  return markup
+    .replace(/( c?x[12]?=")(\d+)"/g, (_, name, x) => `${name}${x_of(Number(x))}"`)
+    .replace(/ d="[^"]*"/g, (path) => path.replace(/(\d+) (\d+)/g, (_, x, y) => `${x_of(Number(x))} ${y}`));
+}
+
+// What is chosen and found: the event that keys go on from, whether it is marked with what depends on it, and which events match.
+let [chosen, is_marked, is_filtered, matches] = [undefined, false, false, []];
+const hits = new Uint8Array(events.length);
+
+function classes_of(index) {
+  const classes = hits[index] && is_filtered ? ["hit"] : [];
+  if (is_marked && index === chosen) classes.push("here");
+  else if (is_marked && is_past(index, chosen)) classes.push("past");
+  else if (is_marked && is_future(index, chosen)) classes.push("future");
+  return classes.join(" ");
+}
+
+function markup_of(item) {
+  const markup = source.slice(begins[item], ends[item]);
+  const index = owners[item];
+  if (index < 0) return laid_out(markup);
+  const name = title_of(index).replaceAll("\n", "; ");
+  const is_here = is_marked && index === chosen;
+  return `<g class="${classes_of(index)}" data-line="${events[index].line}" role="button" tabindex="${is_here ? 0 : -1}" aria-pressed="${is_here}" aria-label="${name}">${laid_out(markup.slice(3))}`;
+}
+
+// The heights that are drawn, and those that are in sight.
+let drawn;
+
+function sight() {
+  const { scrollTop, clientHeight } = at("picture");
+  const top = FIRST + scrollTop / layout.unit;
+  return { top, bottom: top + clientHeight / layout.unit };
+}
+
+// Makes the elements of what is in sight, and of as much above and below it. What is drawn stays where it is enough.
+function draw_window() {
+  const { top, bottom } = sight();
+  if (drawn && drawn.top <= Math.max(FIRST, top) && drawn.bottom >= Math.min(height, bottom)) return;
+  drawn = { top: Math.max(FIRST, Math.floor(2 * top - bottom)), bottom: Math.min(height, Math.ceil(2 * bottom - top)) };
+  const { unit, width, columns, gap } = layout;
+  const svg = at("scene");
+  const had_focus = svg.contains(document.activeElement);
+  svg.setAttribute("viewBox", `0 ${drawn.top} ${width} ${drawn.bottom - drawn.top}`);
+  Object.assign(svg.style, { top: `${(drawn.top - FIRST) * unit}px`, width: `${width * unit}px`, height: `${(drawn.bottom - drawn.top) * unit}px` });
+  const lines = columns.map((x) => `<path class="z" d="M${x} ${drawn.top}V${drawn.bottom}"/>`);
+  svg.innerHTML = lines.join("") + items_within(drawn.top, drawn.bottom).map(markup_of).join("\n");
+  const states = { filtered: is_filtered, chosen: is_marked, narrow: gap < 130 && nodes > 1, tight: gap < 60 && nodes > 1 };
+  for (const [name, holds] of Object.entries(states)) svg.classList.toggle(name, holds);
+  if (had_focus) (shape_of(chosen) ?? at("picture")).focus({ preventScroll: true });
+}
+
+function redraw() {
+  drawn = undefined;
+  draw_window();
+  draw_strip();
+}
+
+const shape_of = (index) => index === undefined ? null : at("scene").querySelector(`g[data-line="${events[index].line}"]`);
+
+// The strip of the whole run has three lanes: decisions, crashes, and what is marked or found. A frame is around what is in sight.
+function draw_lane(brush, left, heights, color) {
+  const tall = at("strip").height;
+  const counts_of = new Map();
+  for (const y of heights) {
+    const row = Math.floor((y - FIRST) / (height - FIRST) * tall);
+    counts_of.set(row, (counts_of.get(row) ?? 0) + 1);
+  }
+  const most = Math.max(1, ...counts_of.values());
+  brush.fillStyle = color;
+  for (const [row, count] of counts_of) {
+    brush.globalAlpha = 0.35 + 0.65 * count / most;
+    brush.fillRect(left, row, 10, tall < heights.length ? 1 : 2);
+  }
+  brush.globalAlpha = 1;
+}
+
+// Of each row of the strip and each node, the ranks of its first and its last event there; and the lanes that no click changes.
+let rows;
+
+function draw_lanes() {
+  const strip = at("strip");
+  [strip.width, strip.height] = [strip.clientWidth, Math.max(1, strip.clientHeight)];
+  const brush = strip.getContext("2d", { willReadFrequently: true });
+  draw_lane(brush, 2, decided_heights, color_of("--dec"));
+  draw_lane(brush, 14, crash_heights, color_of("--bad"));
+  const cells = strip.height * nodes;
+  rows = { first: new Int32Array(cells).fill(events.length), last: new Int32Array(cells).fill(-1), lanes: brush.getImageData(0, 0, strip.width, strip.height) };
+  for (const { y, node, rank } of events) {
+    if (!y) continue;
+    const cell = Math.floor((y - FIRST) / (height - FIRST) * strip.height) * nodes + node;
+    rows.first[cell] = Math.min(rows.first[cell], rank);
+    rows.last[cell] = Math.max(rows.last[cell], rank);
+  }
+}
+
+const color_of = (name) => getComputedStyle(at("legend")).getPropertyValue(name).trim();
+
+// What the chosen event depends on, and what depends on it.
+function draw_marked(brush) {
+  for (const [color, holds] of [
+    [color_of("--past"), (cell, node) => rows.first[cell] < before[chosen * nodes + node]],
+    [color_of("--future"), (cell, node) => rows.last[cell] >= after[chosen * nodes + node]],
+  ]) {
+    brush.fillStyle = color;
+    for (let cell = 0; cell < rows.first.length; cell += 1) if (holds(cell, cell % nodes)) brush.fillRect(26, Math.floor(cell / nodes), 10, 1);
+  }
+}
+
+function draw_strip() {
+  const strip = at("strip");
+  const brush = strip.getContext("2d", { willReadFrequently: true });
+  brush.putImageData(rows.lanes, 0, 0);
+  if (is_marked) draw_marked(brush);
+  else if (is_filtered) draw_lane(brush, 26, matches.map((index) => events[index].y).filter((y) => y), color_of("--link"));
+  strip.lanes = brush.getImageData(0, 0, strip.width, strip.height);
+  draw_frame();
+}
+
+// The frame around what is in sight, and the height of the chosen event.
+function draw_frame() {
+  const strip = at("strip");
+  const brush = strip.getContext("2d", { willReadFrequently: true });
+  const row = (y) => (y - FIRST) / (height - FIRST) * strip.height;
+  const { top, bottom } = sight();
+  brush.putImageData(strip.lanes, 0, 0);
+  brush.fillStyle = brush.strokeStyle = getComputedStyle(document.body).color;
+  brush.globalAlpha = 0.12;
+  brush.fillRect(0, row(top), strip.width, Math.max(3, row(bottom) - row(top)));
+  brush.globalAlpha = 1;
+  brush.strokeRect(0.5, row(top), strip.width - 1, Math.max(3, row(bottom) - row(top)));
+  if (is_marked && events[chosen].y) brush.fillRect(0, row(events[chosen].y), strip.width, 2);
+}
+
+// Goes to where the pointer is on the strip.
+function follow_strip(pointer) {
+  const strip = at("strip");
+  const share = (pointer.clientY - strip.getBoundingClientRect().top) / strip.clientHeight;
+  at("picture").scrollTop = share * (height - FIRST) * layout.unit - at("picture").clientHeight / 2;
+}
+
+// The legend is the picture's, in pieces that can go to the next line.
+function make_legend() {
+  const lines = [...front.matchAll(/^<text x="\d+" y="\d+">.*$/gm)].map(([line]) => line);
+  const marks = (line) => [...line.matchAll(/<text[^>]*>([^<]*)<\/text><use href="(#\w)"[^>]*>/g)]
+    .map(([, word, mark]) => `<span><svg viewBox="-9 -6 18 12" width="18" height="12"><use href="${mark}"/></svg>${word}</span>`);
+  const words = (line) => line.replace(/<\/?text[^>]*>/g, "").split(/, (?=<tspan)|; /)
+    .map((piece) => `<span>${piece.replaceAll("tspan", "span")}</span>`);
+  at("legend").innerHTML += lines.flatMap((line) => line.includes("<use") ? marks(line) : words(line)).join("");
+}
+
+// The picture's style and the marks that it defines.
+function take_front() {
+  const style = document.createElement("style");
+  style.textContent = /<style>([^]*?)<\/style>/.exec(front)[1].replaceAll("svg{--ink", "svg,#legend{--ink");
+  document.head.prepend(style);
+  const marks = document.createElementNS("http://www.w3.org/2000/svg", "svg");
+  marks.setAttribute("style", "position:absolute;width:0;height:0");
+  marks.innerHTML = /<defs>[^]*?<\/defs>/.exec(front)[0];
+  document.body.prepend(marks);
 }
 
 // Text in an element of this name, with elements behind it.
@@ -114,75 +511,73 @@ function list(indexes) {
   return element("ul", "", ...shown);
 }
 
-let chosen;
+// The title of an event as a reader sees it.
+function title_text(index) {
+  return unspelled(title_of(index));
+}
 
-function describe(index, past, future) {
+function describe(index) {
   const event = events[index];
+  const [past, future] = sizes(index);
   const { event: _, ...told } = event.object;
   const parts = [element("h2", `Line ${event.line}`), element("pre", event.text)];
   if (event.note) parts.push(element("p", event.note));
-  const lines = event.title ? event.title.split("\n").slice(1).join("\n") : "";
+  const lines = title_text(index).split("\n").slice(1).join("\n");
   if (lines) parts.push(element("pre", lines));
   if (told.kind !== "done" && told.kind !== "idle") parts.push(element("pre", JSON.stringify(told, null, 1)));
   if (event.kind === "hear" && event.message) parts.push(element("pre", JSON.stringify(event.message, null, 1)));
-  const causesWords = element("h2", `It depends on ${past.size} events, directly on`);
-  causesWords.className = "past-word";
-  const effectsWords = element("h2", `${future.size} events depend on it, directly`);
-  effectsWords.className = "future-word";
-  parts.push(causesWords, list(causes[index]), effectsWords, list(effects[index]));
+  const causes_words = element("h2", `It depends on ${past} events, directly on`);
+  causes_words.className = "past-word";
+  const effects_words = element("h2", `${future} events depend on it, directly`);
+  effects_words.className = "future-word";
+  parts.push(causes_words, list(causes(index)), effects_words, list(effects(index)));
   at("event").replaceChildren(...parts);
 }
 
+// Scrolls to an event, if the picture has it and it isn't well in sight.
+function show(index) {
+  const { y } = events[index];
+  const { top, bottom } = sight();
+  if (y && (y < top + 10 || y > bottom - 20)) at("picture").scrollTop = (y - FIRST - (bottom - top) / 2) * layout.unit;
+}
+
 function choose(index, focus = true) {
-  const past = reached(index, causes);
-  const future = reached(index, effects);
-  events.forEach((event, number) => {
-    if (!event.shape) return;
-    event.shape.classList.toggle("past", past.has(number));
-    event.shape.classList.toggle("future", future.has(number));
-    event.shape.classList.toggle("here", number === index);
-    event.shape.setAttribute("tabindex", number === index ? "0" : "-1");
-    event.shape.setAttribute("aria-pressed", String(number === index));
-  });
-  svg.classList.add("chosen");
   chosen = index;
-  describe(index, past, future);
-  const shape = events[index].shape;
-  if (shape) {
-    shape.scrollIntoView({ block: "center", inline: "nearest" });
-    if (focus) shape.focus({ preventScroll: true });
-  }
+  is_marked = true;
+  describe(index);
+  show(index);
+  redraw();
+  if (focus) shape_of(index)?.focus({ preventScroll: true });
   const address = `#line=${events[index].line}`;
   if (location.hash !== address) history.replaceState(null, "", address);
 }
 
 // Whether an event has what is searched for, and passes the filters.
-function is_match(event) {
-  const words = at("words").value.trim();
-  const field = at("field").value;
-  const own = { client: event.client, request: event.client === undefined ? undefined : `${event.client}.${event.request}`, name: event.name, instance: event.instance };
-  const found = words === ""
-    || (field === "any" ? [event.text, event.note ?? "", event.title ?? "", own.request ?? "", event.name ?? ""].some((text) => text.includes(words)) : String(own[field] ?? "") === words);
-  const instance = at("instance").value.trim();
-  return found
-    && (at("node").value === "" || String(event.node) === at("node").value)
-    && (at("kind").value === "" || event.kind === at("kind").value)
-    && (instance === "" || String(event.instance ?? "") === instance);
+function is_match(event, index, wanted) {
+  const { words, field, node, kind, instance } = wanted;
+  if (node !== "" && String(event.node) !== node) return false;
+  if (kind !== "" && event.kind !== kind) return false;
+  if (instance !== "" && String(event.instance ?? "") !== instance) return false;
+  if (words === "") return true;
+  const request = event.client === undefined ? "" : `${event.client}.${event.request}`;
+  if (field !== "any") return String((field === "request" ? request : event[field]) ?? "") === words;
+  return [event.text, event.note ?? "", request, event.name ?? ""].some((text) => text.includes(words)) || title_of(index).includes(wanted.spelled);
 }
 
-let matches = [];
+const spelled = (text) => text.replaceAll("&", "&amp;").replaceAll("<", "&lt;").replaceAll(">", "&gt;").replaceAll('"', "&quot;");
 
 function filter() {
-  const is_open = ["words", "node", "kind", "instance"].every((id) => at(id).value.trim() === "");
+  const wanted = Object.fromEntries([...FIELDS, "field"].map((id) => [id, at(id).value.trim()]));
+  wanted.spelled = spelled(wanted.words);
+  is_filtered = FIELDS.some((id) => wanted[id] !== "");
   matches = [];
   events.forEach((event, index) => {
-    const hit = is_match(event);
-    if (hit) matches.push(index);
-    event.shape?.classList.toggle("hit", hit);
+    hits[index] = is_match(event, index, wanted) ? 1 : 0;
+    if (hits[index]) matches.push(index);
   });
-  svg.classList.toggle("filtered", !is_open);
-  if (!is_open) svg.classList.remove("chosen");
-  at("count").textContent = is_open ? `${events.length} events` : `${matches.length} of ${events.length} events`;
+  is_marked = false;
+  at("count").textContent = is_filtered ? `${matches.length} of ${events.length} events` : `${events.length} events`;
+  redraw();
 }
 
 // Goes to the next match behind the chosen event, or to the one before it.
@@ -192,20 +587,18 @@ function go(step, focus = true) {
   if (next !== undefined) choose(next, focus);
 }
 
+// Shows all events alike. Keys go on from the one that was chosen.
 function clear() {
-  for (const id of ["words", "node", "kind", "instance"]) at(id).value = "";
+  for (const id of FIELDS) at(id).value = "";
   filter();
-  svg.classList.remove("chosen");
 }
 
-const width = svg.width.baseVal.value;
-const height = svg.height.baseVal.value;
-let zoom = 1;
-
+// Makes the picture larger or smaller, or fits it; the middle of what is in sight stays there.
 function scale(factor) {
+  const { top, bottom } = sight();
   zoom = factor === 0 ? 1 : Math.min(8, Math.max(0.1, zoom * factor));
-  svg.style.width = `${width * zoom}px`;
-  svg.style.height = `${height * zoom}px`;
+  lay_out();
+  at("picture").scrollTop = ((top + bottom) / 2 - FIRST) * layout.unit - at("picture").clientHeight / 2;
 }
 
 function follow_address() {
@@ -214,52 +607,50 @@ function follow_address() {
   if (index !== null && index !== undefined) choose(index);
 }
 
-for (let node = 0; node < nodes; node += 1) at("node").append(element("option", String(node)));
-for (const kind of new Set(events.map((event) => event.kind))) at("kind").append(element("option", kind));
-for (const option of at("kind").options) if (option.text !== "all") option.value = option.text;
-for (const object of objects.filter((object) => object.kind === "command")) {
-  const { client, request, operation, name, value, owner } = object.command;
-  const words = [`${client}.${request}`, operation, name, value ?? owner ?? ""].join(" ").trim();
-  const decision = decisions.get(`${client}.${request}`);
-  const item = decision ? element("li", "", link(decision.index, words), element("span", ` instance ${decision.instance}`)) : element("li", words);
-  document.querySelector("#decided ol").append(item);
-}
-if (!objects.some((object) => object.kind === "command")) at("decided").append(element("p", "none"));
+// The decided commands, each with the event that decided it where that is known. Many are shown when they are asked for.
+const commands = objects.filter((object) => object.kind === "command");
+const MANY = 200;
 
-svg.addEventListener("click", (click) => {
-  const shape = click.target.closest("g[data-line]");
-  if (shape) choose(place.get(Number(shape.dataset.line)));
-});
-for (const id of ["words", "node", "kind", "instance", "field"]) at(id).addEventListener("input", filter);
-at("find").addEventListener("submit", (submitted) => {
-  submitted.preventDefault();
-  go(1, false);
-});
-at("before").addEventListener("click", () => go(-1, false));
-at("clear").addEventListener("click", clear);
-at("in").addEventListener("click", () => scale(1.25));
-at("out").addEventListener("click", () => scale(0.8));
-at("whole").addEventListener("click", () => scale(0));
-at("picture").addEventListener("wheel", (wheel) => {
-  if (wheel.ctrlKey) {
-    wheel.preventDefault();
-    scale(wheel.deltaY < 0 ? 1.1 : 1 / 1.1);
-  }
-}, { passive: false });
-window.addEventListener("hashchange", follow_address);
-document.addEventListener("keydown", (key) => {
+function command_item({ place: instance, command }) {
+  const { client, request, operation, name, value, owner } = command;
+  const words = [`${client}.${request}`, operation, name, value ?? owner ?? ""].join(" ").trim();
+  const index = decisions.get(instance);
+  return index === undefined ? element("li", words) : element("li", "", link(index, words));
+}
+
+function show_commands(from) {
+  const shown = document.querySelector("#decided ol");
+  shown.append(...commands.slice(from, from + MANY).map(command_item));
+  at("more")?.remove();
+  if (commands.length <= from + MANY) return;
+  const more = element("button", `${commands.length - from - MANY} more`);
+  more.id = "more";
+  more.addEventListener("click", () => show_commands(from + MANY));
+  at("decided").append(more);
+}
+
+function fill_choices() {
+  for (let node = 0; node < nodes; node += 1) at("node").append(new Option(String(node), String(node)));
+  for (const kind of new Set(events.map((event) => event.kind))) at("kind").append(new Option(kind, kind));
+  show_commands(0);
+  if (commands.length === 0) at("decided").append(element("p", "none"));
+  at("scene").setAttribute("aria-label", `${events.length} events`);
+}
+
+const actions = {
+  ArrowDown: () => choose(Math.min(events.length - 1, (chosen ?? -1) + 1)),
+  ArrowUp: () => choose(Math.max(0, (chosen ?? events.length) - 1)),
+  n: () => go(1),
+  p: () => go(-1),
+  "/": () => at("words").focus(),
+  "+": () => scale(1.25),
+  "-": () => scale(0.8),
+  0: () => scale(0),
+};
+
+function follow_key(key) {
   if (key.ctrlKey || key.metaKey || key.altKey) return;
   const is_typing = /^(INPUT|SELECT)$/.test(document.activeElement?.tagName);
-  const actions = {
-    ArrowDown: () => choose(Math.min(events.length - 1, (chosen ?? -1) + 1)),
-    ArrowUp: () => choose(Math.max(0, (chosen ?? events.length) - 1)),
-    n: () => go(1),
-    p: () => go(-1),
-    "/": () => at("words").focus(),
-    "+": () => scale(1.25),
-    "-": () => scale(0.8),
-    0: () => scale(0),
-  };
   if (key.key === "Escape") {
     clear();
     at("picture").focus();
@@ -267,6 +658,46 @@ document.addEventListener("keydown", (key) => {
     key.preventDefault();
     actions[key.key]();
   }
-});
+}
+
+function follow_wheel(wheel) {
+  if (!wheel.ctrlKey) return;
+  wheel.preventDefault();
+  scale(wheel.deltaY < 0 ? 1.1 : 1 / 1.1);
+}
+
+function listen() {
+  at("scene").addEventListener("click", (click) => {
+    const shape = click.target.closest("g[data-line]");
+    if (shape) choose(place.get(Number(shape.dataset.line)));
+  });
+  for (const id of [...FIELDS, "field"]) at(id).addEventListener("input", filter);
+  at("find").addEventListener("submit", (submitted) => {
+    submitted.preventDefault();
+    go(1, false);
+  });
+  at("before").addEventListener("click", () => go(-1, false));
+  at("clear").addEventListener("click", clear);
+  for (const [id, key] of [["in", "+"], ["out", "-"], ["whole", 0]]) at(id).addEventListener("click", actions[key]);
+  at("picture").addEventListener("wheel", follow_wheel, { passive: false });
+  at("picture").addEventListener("scroll", () => {
+    draw_window();
+    draw_frame();
+  });
+  at("strip").addEventListener("pointerdown", (pointer) => {
+    at("strip").setPointerCapture(pointer.pointerId);
+    follow_strip(pointer);
+  });
+  at("strip").addEventListener("pointermove", (pointer) => pointer.buttons > 0 && follow_strip(pointer));
+  window.addEventListener("hashchange", follow_address);
+  document.addEventListener("keydown", follow_key);
+}
+
+take_front();
+make_legend();
+fill_choices();
+lay_out();
 filter();
+listen();
+new ResizeObserver(lay_out).observe(at("picture"));
 follow_address();
