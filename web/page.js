@@ -22,10 +22,10 @@ const body = source.indexOf('<path class="z"');
 const front = source.slice(0, body);
 const origins = [...source.matchAll(/<text class="h" x="(\d+)"/g)].map((found) => Number(found[1]));
 const nodes = origins.length;
-const [, full_width, height] = /viewBox="0 0 (\d+) (\d+)"/.exec(front).map(Number);
+let [, full_width, height] = /viewBox="0 0 (\d+) (\d+)"/.exec(front).map(Number);
 
 // What an event stands on directly: the event before it at its node and, of a message that is heard, where that was sent.
-const [previous, following, sending] = [0, 1, 2].map(() => new Int32Array(events.length).fill(-1));
+let [previous, following, sending] = [0, 1, 2].map(() => new Int32Array(events.length).fill(-1));
 const hearings = new Map();
 const counts = new Int32Array(nodes);
 
@@ -53,7 +53,7 @@ const effects = (index) => [...new Set([following[index], ...(hearings.get(index
 
 // What an event depends on is, of each node, its first events: `before` has how many. What depends on it is each node's events
 // from one on: `after` has its rank.
-const [before, after] = [0, 1].map(() => new Int32Array(events.length * nodes));
+let [before, after] = [0, 1].map(() => new Int32Array(events.length * nodes));
 
 // An event depends on its cause, and on what that depends on.
 function join_before(index, cause) {
@@ -197,9 +197,9 @@ const decisions = find_decisions();
 
 // The picture's items in their order: marks of a line each, and elements of an event each. Of each: where its text begins and
 // ends, how far down it reaches from and to, and its event. `items` has the item of each event, or -1 where a cut leaves it out.
-const [begins, ends, tops, bottoms, owners] = [[], [], [], [], []];
+let [begins, ends, tops, bottoms, owners] = [[], [], [], [], []];
 const items = new Int32Array(events.length).fill(-1);
-const [crash_heights, decided_heights] = [[], []];
+let [crash_heights, decided_heights] = [[], []];
 
 // How far down the numbers of shapes reach: those of marks and boxes, and of paths. Words have none of a path.
 const HEIGHTS = / c?y[12]?="(\d+)"(?: width="\d+" height="(\d+)")?|[MC ]\d+ (\d+)|V(\d+)/g;
