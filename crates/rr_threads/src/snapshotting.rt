@@ -2,7 +2,7 @@
 
 ghost use Rattle.std.specs.Prelude.{◌≡◌, IfOk, IfSome, IsSome};
 ghost use Rattle.rr_frame.specs.Snapshots.{IsSnapshot};
-ghost use Rattle.rr_threads.specs.Snapshotting.{IsBegun, IsWritten};
+ghost use Rattle.rr_threads.specs.Snapshotting.{IsBegun, HoldsMarked, IsWritten};
 
 use crate::desk::{Desk, Due};
 use crate::switching::make_all;
@@ -18,7 +18,8 @@ use std::sync::Wait;
 
 /// The promise, where a snapshot can have it.
 fn lawful(nodes: Nodes, node: NodeId, epoch: u64, next: u64, promise: Promise) -> Option<Promise>
-    ensures { IfSome result (λ p. IsSnapshot (record { node = node; nodes = nodes; epoch = epoch; next = next; entries = p })) }
+    ensures fits { IfSome result (λ p. IsSnapshot (record { node = node; nodes = nodes; epoch = epoch; next = next; entries = p })) }
+    ensures same { IfSome result (λ p. p ≡ promise) }
 {
     match Snapshot::new(nodes, node, epoch, next, promise) {
         Ok(snapshot) => Some(snapshot.into_promise()),
@@ -36,6 +37,7 @@ fn begin<D: Disk>(
 ) -> Result<Option<SwitchJob>, Refusal>
     ensures whole { IfOk result (λ job. IsSome job → (core.now.node ≡ journal.old.node) × (core.now.marked_end ≡ journal.old.next)) }
     ensures begun { IfOk result (λ job. IsBegun journal.old job journal.new) }
+    ensures held { IfOk result (λ job. IfSome job (HoldsMarked core.now journal.old)) }
 {
     let (nodes, node) = journal.owner();
     let next = journal.facts();
