@@ -10,8 +10,9 @@ a copy of these crates and those below. Where the kit keeps what earlier runs on
 what `rt check` has kept of a crate in any checkout here, and doesn't prove the crates. N checks run side by side, as many as there are
 processors if left out.
 
-Each edit that is refused is noted in refused.txt, with a sum over the edit and the sources and definitions of its crate. With --left
-edits are left out that are noted so of today's text. So a run that is cut off loses nothing, and the file tells what was tried.
+Each edit that is refused is noted in refused.txt, with a sum over the edit and the sources and definitions of its crate, without their
+lines of comments. With --left edits are left out that are noted so of today's text. So a run that is cut off loses nothing, and the file
+tells what was tried.
 
 The gate leaves these edits out for its time: they turn the meaning of what stands inside a crate, or of a public function that another
 edit turns in the gate. Edits of the bodies of different functions are tried in one check, since a function's proof rests on the
@@ -59,11 +60,17 @@ def edits_of(gate, more):
     return found
 
 
+def without_comments(file):
+    """What a file says but for its lines of comments, on which no verdict rests."""
+    mark = {".rt": b"//", ".antt": b"--"}[file.suffix]
+    return b"".join(line for line in file.read_bytes().splitlines(True) if not line.lstrip().startswith(mark))
+
+
 def rests_on(name, edit):
     """A sum over what a verdict on an edit of this crate rests on: the edit, and the crate's sources and definitions."""
     crate, told = TREE / "crates" / name, hashlib.sha256(edit.read_bytes())
     for file in sorted([*crate.glob("src/**/*.rt"), *crate.glob("specs/**/*.antt")]):
-        told.update(f"{file.relative_to(crate)}\n".encode() + file.read_bytes())
+        told.update(f"{file.relative_to(crate)}\n".encode() + without_comments(file))
     return told.hexdigest()[:16]
 
 
