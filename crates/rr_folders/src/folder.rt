@@ -5,7 +5,10 @@ ghost use Rattle.std.specs.Prelude.{◌≡◌, length, IfOk};
 use crate::closed::{Closed, done};
 use crate::forming::{are_formatted, begin, conclude, open_disks, take_on, tidy};
 use crate::lock::{Lockable, Locks};
-use crate::seen::{Seen, cluster_in, is_there, look_at};
+use crate::mark_file::FolderMark;
+use crate::marked::MarkedDisk;
+use crate::seen::{Seen, cluster_in, is_there, look_at, look_over};
+use crate::tip::Tip;
 use rr_cluster::{Cluster, Content, Verdict, judge};
 use rr_disk::{FileDisk, OpenedFile, make_folder};
 use rr_types::Nodes;
@@ -16,11 +19,18 @@ use std::marker::Model;
 use std::os::unix::fs::FileExt;
 use std::rt::Files;
 
+/// A disk of the two files in a node's folder, whose mark is the file `node` there.
+pub type NodeDisk<'x, F, R> = MarkedDisk<FileDisk<OpenedFile<F>>, FolderMark<'x, R>>;
+
 /// The folders of a cluster: DIR and those in it, locked while `locks` is there, and the disks in them, ascending.
 #[derive(Drop)]
-pub struct Folders<F> {
+pub struct Folders<
+    'x,
+    F: Read + Write + Seek + FileExt + OpenFile + Drop,
+    R: Files<File = F> + AllocGlobal,
+> {
     pub locks: Locks<F>,
-    pub disks: Vec<FileDisk<OpenedFile<F>>>,
+    pub disks: Vec<NodeDisk<'x, F, R>>,
 }
 
 /// What was found in the folder DIR, which is locked while this is there. Contracts see how many nodes it was looked through for.
@@ -28,6 +38,8 @@ pub struct Folders<F> {
 pub struct Survey<F> {
     pub(crate) locks: Locks<F>,
     pub(crate) seen: Vec<Seen>,
+    // what is known of each folder's active area
+    pub(crate) known: Vec<Option<Tip>>,
     pub(crate) has_cluster_file: bool,
     // where the path of the first folder ends that was made for DIR
     pub(crate) made: Option<usize>,
@@ -52,6 +64,7 @@ impl<F> Survey<F> {
         let Survey {
             locks,
             seen: _,
+            known: _,
             has_cluster_file: _,
             made: _,
             verdict: _,
@@ -110,22 +123,25 @@ fn look_in<
 {
     let mut locks = Locks::on(rt, dir)?;
     let mut seen = Vec::new(rt.alloc());
+    let mut known = Vec::new(rt.alloc());
     let mut found = Vec::new(rt.alloc());
     for node in 0..nodes.count() {
         let path = format!(in rt.alloc(); "{dir}/{node}")?;
         if is_there(rt, path.as_str())? {
             locks.add(rt, path.as_str())?;
         }
-        let look = look_at(rt, &locks, path.as_str())?;
+        let (look, tip) = look_at(rt, &locks, path.as_str())?;
         found.push(look.found)?;
         seen.push(look)?;
+        known.push(tip)?;
     }
     let path = format!(in rt.alloc(); "{dir}/cluster")?;
-    let cluster = cluster_in(rt, &locks)?;
+    let cluster = cluster_in(rt, locks.dir())?;
     let verdict = judge(nodes, cluster.as_ref(), found.as_slice());
     Ok(Survey {
         locks,
         seen,
+        known,
         has_cluster_file: is_there(rt, path.as_str())?,
         made,
         verdict,
@@ -151,6 +167,46 @@ pub fn survey_folders<
         remove_made(rt, dir, made);
     }
     looked
+}
+
+/// What would be done with the folders of a cluster in the folder DIR. Nothing is locked, made or written, so another program may change
+/// them meanwhile.
+///
+/// # Errors
+/// `Failed`, `OutOfMemory`.
+pub fn judge_folders<R: Files + AllocGlobal>(
+    rt: &R,
+    nodes: Nodes,
+    dir: &str,
+) -> Result<Verdict, Closed> {
+    let mut found = Vec::new(rt.alloc());
+    for node in 0..nodes.count() {
+        let path = format!(in rt.alloc(); "{dir}/{node}")?;
+        let (look, _) = look_over(rt, path.as_str())?;
+        found.push(look.found)?;
+    }
+    let cluster = cluster_in(rt, dir)?;
+    Ok(judge(nodes, cluster.as_ref(), found.as_slice()))
+}
+
+/// The disk in a folder that has a mark, for a program that has locked the folder. What is written there goes on in the mark. None: it has none.
+///
+/// # Errors
+/// `Unopened`, `Failed`, `OutOfMemory`.
+pub fn open_marked<
+    'x,
+    F: Read + Write + Seek + FileExt + OpenFile + Drop,
+    R: Files<File = F> + AllocGlobal,
+>(rt: &'x R, folder: &str) -> Result<Option<NodeDisk<'x, F, R>>, Closed> {
+    let (seen, known) = look_over(rt, folder)?;
+    let Some(mark) = seen.found.mark else {
+        return Ok(None);
+    };
+    let keeper = FolderMark::new(rt, folder, mark.identity, mark.node)?;
+    match FileDisk::open(rt, folder, false) {
+        Ok(disk) => Ok(Some(MarkedDisk::new(disk, keeper, mark.course, known))),
+        Err(refusal) => Err(Closed::Unopened(mark.node, refusal)),
+    }
 }
 
 // The cluster whose disks may be opened, by what was found. What has to be written before is.
@@ -181,9 +237,10 @@ fn sync_names<R: Files + AllocGlobal>(rt: &R, dir: &str) -> Result<(), Closed> {
 /// `Refused`, where the folders may not be opened: nothing is written then. `Unopened`, `InUse`, `Failed` or `OutOfMemory`: what was
 /// made is taken away, unless the cluster's file may say already that its nodes have been formatted.
 pub fn enter<
+    'x,
     F: Read + Write + Seek + FileExt + OpenFile + Drop + Lockable,
     R: Files<File = F> + AllocGlobal,
->(rt: &R, nodes: Nodes, dir: &str, survey: Survey<F>) -> Result<Folders<F>, Closed>
+>(rt: &'x R, nodes: Nodes, dir: &str, survey: Survey<F>) -> Result<Folders<'x, F, R>, Closed>
     ensures { IfOk result (λ f. length f.disks.items ≡ nodes) }
 {
     let mut survey = survey;
@@ -210,9 +267,10 @@ pub fn enter<
 /// # Errors
 /// Those of `survey_folders` and of `enter`.
 pub fn open_folders<
+    'x,
     F: Read + Write + Seek + FileExt + OpenFile + Drop + Lockable,
     R: Files<File = F> + AllocGlobal,
->(rt: &R, nodes: Nodes, dir: &str) -> Result<Folders<F>, Closed>
+>(rt: &'x R, nodes: Nodes, dir: &str) -> Result<Folders<'x, F, R>, Closed>
     ensures { IfOk result (λ f. length f.disks.items ≡ nodes) }
 {
     let survey = survey_folders(rt, nodes, dir)?;

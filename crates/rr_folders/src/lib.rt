@@ -22,13 +22,20 @@ mod closed;
 mod folder;
 mod forming;
 mod lock;
+mod mark_file;
+mod marked;
 mod number_file;
 mod requests;
 mod seen;
+mod tip;
 
 pub use closed::Closed;
-pub use folder::{Folders, Survey, enter, open_folders, survey_folders};
+pub use folder::{
+    Folders, NodeDisk, Survey, enter, judge_folders, open_folders, open_marked, survey_folders,
+};
 pub use forming::try_folder;
 pub use lock::{Lockable, Locks};
+pub use mark_file::{FolderMark, MarkKeeper};
+pub use marked::MarkedDisk;
 pub use number_file::{NumberFile, reserve};
 pub use requests::{Block, greatest_in, reserve_in};

@@ -16,7 +16,7 @@ use crate::closed::end_by_closed;
 use crate::reused::tell_reused;
 use crate::ticking::tick_by;
 use rr_cli::{Form, end_by_refusal, end_by_stream, end_by_text, nodes_of, print_folder_fault};
-use rr_disk::{FileDisk, OpenedFile};
+use rr_disk::{Disk, FileDisk};
 use rr_explain::print_script_fault;
 use rr_files::FileReader;
 use rr_folders::{Closed, Folders, Lockable, Locks, Survey, enter, survey_folders, try_folder};
@@ -168,16 +168,18 @@ fn end_by_tape<R: Files + AllocGlobal, O: Sink, E: Write>(
 
 // Runs a script over the disks of folders, whose locks are held meanwhile.
 fn run_locked<
-    F: Read + Write + Seek + FileExt + OpenFile + Drop + Send,
+    F: Read + Write + Seek + FileExt + OpenFile + Drop,
+    D: Disk + Drop + Send,
     R: AllocGlobal + Threads + Wait + Clock + Sync,
 >(
     rt: &R,
     _locks: &Locks<F>,
-    disks: Vec<FileDisk<OpenedFile<F>>>,
+    disks: Vec<D>,
     script: &Script,
     recorder: Option<&Recorder>,
     tick: Duration,
 ) -> Result<Ran, Refusal>
+    requires alike { (one other : D) → D.tells one → D.tells other }
     ensures { IfOk result (λ ran. are_reused script.now.lines ran.reused.items ≡ true) }
 {
     run_script_told(rt, rt.alloc(), disks, script, &Open, recorder, tick)
