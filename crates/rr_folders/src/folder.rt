@@ -5,6 +5,7 @@ ghost use Rattle.std.specs.Prelude.{◌≡◌, length, IfOk};
 use crate::closed::{Closed, done};
 use crate::forming::{are_formatted, begin, conclude, open_disks, take_on, tidy};
 use crate::lock::{Lockable, Locks};
+use crate::plain::see_requests;
 use crate::seen::{Seen, cluster_in, is_there, look_at};
 use rr_cluster::{Cluster, Content, Verdict, judge};
 use rr_disk::{FileDisk, OpenedFile, make_folder};
@@ -122,6 +123,7 @@ fn look_in<
     }
     let path = format!(in rt.alloc(); "{dir}/cluster")?;
     let cluster = cluster_in(rt, &locks)?;
+    see_requests(rt, dir)?;
     let verdict = judge(nodes, cluster.as_ref(), found.as_slice());
     Ok(Survey {
         locks,

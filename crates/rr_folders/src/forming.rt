@@ -6,6 +6,7 @@ ghost use Rattle.std.specs.Prelude.{◌≡◌, ◌<◌, length, IfOk};
 use crate::closed::{Closed, done};
 use crate::folder::{Survey, remove_made};
 use crate::lock::{Lockable, Locks};
+use crate::plain::make_fresh;
 use crate::seen::Seen;
 use rr_cluster::{AreaFront, Cluster, Identity, Mark};
 use rr_disk::{FileDisk, OpenedFile, make_folder};
@@ -33,7 +34,7 @@ pub(crate) fn draw_identity<R: Files + AllocGlobal>(rt: &R) -> Result<Identity, 
 
 // Writes a text to a new file, and syncs it. Where that fails there is no such file.
 fn write_fresh<R: Files + AllocGlobal>(rt: &R, fresh: &str, text: &[u8]) -> Result<(), Closed> {
-    let mut file = done(rt, fresh, "making the file", fs::create(rt, fresh))?;
+    let mut file = done(rt, fresh, "making the file", make_fresh(rt, fresh))?;
     let written = match done(rt, fresh, "writing", file.write_all(text)) {
         Ok(()) => done(rt, fresh, "syncing", file.sync_all()),
         Err(closed) => Err(closed),
@@ -137,7 +138,9 @@ pub fn try_folder<R: Files + AllocGlobal>(rt: &R, folder: &str) -> Result<(), Cl
             options.open(rt, path.as_str()),
         )?;
     }
-    let probe = format!(in rt.alloc(); "{folder}/probe")?;
+    // The number is drawn, so that no file of anybody's has this name.
+    let drawn = draw_identity(rt)?.first;
+    let probe = format!(in rt.alloc(); "{folder}/probe-{drawn}")?;
     write_fresh(rt, probe.as_str(), &[0u8; 4096])?;
     let _ = fs::remove_file(rt, probe.as_str());
     Ok(())
