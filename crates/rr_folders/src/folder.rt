@@ -1,17 +1,19 @@
 //! The folders of a cluster, found and opened.
 
-ghost use Rattle.std.specs.Prelude.{◌≡◌, length, IfOk};
+ghost use Rattle.std.specs.Prelude.{◌≡◌, ◌⊎◌, length, Contains, IfOk, IfErr};
+ghost use Rattle.rr_types.specs.declared.refusal.Refusal.TheVariants.{Device, OutOfMemory};
 
 use crate::closed::{Closed, done};
 use crate::forming::{are_formatted, begin, conclude, open_disks, take_on, tidy};
 use crate::lock::{Lockable, Locks};
 use crate::mark_file::FolderMark;
 use crate::marked::MarkedDisk;
+use crate::plain::see_requests;
 use crate::seen::{Seen, cluster_in, is_there, look_at, look_over};
 use crate::tip::Tip;
 use rr_cluster::{Cluster, Content, Verdict, judge};
 use rr_disk::{FileDisk, OpenedFile, make_folder};
-use rr_types::Nodes;
+use rr_types::{Nodes, Refusal};
 use std::fs;
 use std::fs::OpenFile;
 use std::io::{ErrorKind, Read, Seek, Write};
@@ -137,6 +139,7 @@ fn look_in<
     }
     let path = format!(in rt.alloc(); "{dir}/cluster")?;
     let cluster = cluster_in(rt, locks.dir())?;
+    see_requests(rt, dir)?;
     let verdict = judge(nodes, cluster.as_ref(), found.as_slice());
     Ok(Survey {
         locks,
@@ -189,11 +192,8 @@ pub fn judge_folders<R: Files + AllocGlobal>(
     Ok(judge(nodes, cluster.as_ref(), found.as_slice()))
 }
 
-/// The disk in a folder that has a mark, for a program that has locked the folder. What is written there goes on in the mark. None: it has none.
-///
-/// # Errors
-/// `Unopened`, `Failed`, `OutOfMemory`.
-pub fn open_marked<
+// The disk in a folder that has a mark. What is written there goes on in the mark. None: it has none.
+fn open_marked<
     'x,
     F: Read + Write + Seek + FileExt + OpenFile + Drop,
     R: Files<File = F> + AllocGlobal,
@@ -206,6 +206,30 @@ pub fn open_marked<
     match FileDisk::open(rt, folder, false) {
         Ok(disk) => Ok(Some(MarkedDisk::new(disk, keeper, mark.course, known))),
         Err(refusal) => Err(Closed::Unopened(mark.node, refusal)),
+    }
+}
+
+impl<F: Read + Write + Seek + FileExt + OpenFile + Drop> Locks<F> {
+    /// The disk in a folder that is locked, opened to read and write, where the folder has a mark: what is written there goes on in
+    /// the mark. None: it has none.
+    ///
+    /// # Errors
+    /// `OutOfMemory`; `Device` where a file is missing, isn't plain, or can't be opened so.
+    pub fn marked_disk_in<'x, R: Files<File = F> + AllocGlobal>(
+        &self,
+        rt: &'x R,
+        folder: &str,
+    ) -> Result<Option<NodeDisk<'x, F, R>>, Refusal>
+        requires locked { Contains self.now folder.now }
+        ensures cause { IfErr result (λ e. (e ≡ OutOfMemory) ⊎ (e ≡ Device)) }
+    {
+        match open_marked(rt, folder) {
+            Ok(disk) => Ok(disk),
+            Err(Closed::OutOfMemory | Closed::Unopened(_, Refusal::OutOfMemory)) => {
+                Err(Refusal::OutOfMemory)
+            }
+            Err(_) => Err(Refusal::Device),
+        }
     }
 }
 

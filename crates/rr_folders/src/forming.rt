@@ -8,6 +8,7 @@ use crate::folder::{NodeDisk, Survey, remove_made};
 use crate::lock::{Lockable, Locks};
 use crate::mark_file::FolderMark;
 use crate::marked::MarkedDisk;
+use crate::plain::make_fresh;
 use crate::seen::{Seen, course_of, is_there};
 use crate::tip::Tip;
 use rr_cluster::{AreaFront, Cluster, Course, Identity, Mark};
@@ -40,7 +41,7 @@ pub(crate) fn write_fresh<R: Files + AllocGlobal>(
     fresh: &str,
     text: &[u8],
 ) -> Result<(), Closed> {
-    let mut file = done(rt, fresh, "making the file", fs::create(rt, fresh))?;
+    let mut file = done(rt, fresh, "making the file", make_fresh(rt, fresh))?;
     let written = match done(rt, fresh, "writing", file.write_all(text)) {
         Ok(()) => done(rt, fresh, "syncing", file.sync_all()),
         Err(closed) => Err(closed),
@@ -150,7 +151,9 @@ pub fn try_folder<R: Files + AllocGlobal>(rt: &R, folder: &str) -> Result<(), Cl
             options.open(rt, path.as_str()),
         )?;
     }
-    let probe = format!(in rt.alloc(); "{folder}/probe")?;
+    // The number is drawn, so that no file of anybody's has this name.
+    let drawn = draw_identity(rt)?.first;
+    let probe = format!(in rt.alloc(); "{folder}/probe-{drawn}")?;
     write_fresh(rt, probe.as_str(), &[0u8; 4096])?;
     let _ = fs::remove_file(rt, probe.as_str());
     Ok(())

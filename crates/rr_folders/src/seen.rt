@@ -2,6 +2,7 @@
 
 use crate::closed::{Closed, done, failed};
 use crate::lock::Locks;
+use crate::plain::is_plain;
 use crate::tip::{Tip, digest_of};
 use rr_cluster::{
     Active, AreaFront, Cluster, Content, Course, Digest, Found, Identity, Mark, Reached, active_of,
@@ -41,7 +42,7 @@ pub(crate) fn is_there<R: Files + AllocGlobal>(rt: &R, path: &str) -> Result<boo
 
 // The bytes of a file; none where it is missing.
 fn bytes_of<R: Files + AllocGlobal>(rt: &R, path: &str) -> Result<Option<Vec<u8>>, Closed> {
-    if !is_there(rt, path)? {
+    if !is_plain(rt, path)? {
         return Ok(None);
     }
     Ok(Some(done(rt, path, "reading", fs::read(rt, path))?))
@@ -49,7 +50,7 @@ fn bytes_of<R: Files + AllocGlobal>(rt: &R, path: &str) -> Result<Option<Vec<u8>
 
 // How the area in a file begins.
 fn front_in<R: Files + AllocGlobal>(rt: &R, path: &str) -> Result<AreaFront, Closed> {
-    if !is_there(rt, path)? {
+    if !is_plain(rt, path)? {
         return Ok(AreaFront::Missing);
     }
     let length = done(rt, path, "looking", fs::metadata(rt, path))?.len();

@@ -5,7 +5,7 @@ ghost use Rattle.rr_run.specs.Closings.{may_be_damaged, IsRefusalOf, IsClosedBy,
 
 use rr_cli::{end_by_refusal, print_folder_fault};
 use rr_cluster::Fault;
-use rr_folders::Closed;
+use rr_folders::{Closed, print_closed};
 use rr_image::read_image;
 use rr_types::{NodeId, Nodes, Refusal};
 use std::alloc::Global;
@@ -29,9 +29,9 @@ where
     let refusal = refusal_of(rt, dir, nodes, closed);
     let ending = end_by_refusal(err, &refusal);
     let _ = match closed {
-        Closed::OutOfMemory => Ok(()),
-        Closed::InUse(path) => writeln!(err, "{path}: another program has locked it"),
-        Closed::Failed { path, call, error } => writeln!(err, "{path}: {call}: {error}"),
+        Closed::OutOfMemory | Closed::InUse(_) | Closed::Failed { .. } => {
+            print_closed(err, closed)
+        }
         Closed::Unopened(node, _) => print_unopened(rt, err, dir, *node, &refusal),
         Closed::Refused(node, fault) => print_refused(rt, err, dir, nodes, *node, fault, &refusal),
     };

@@ -19,7 +19,9 @@ use rr_cli::{Form, end_by_refusal, end_by_stream, end_by_text, nodes_of, print_f
 use rr_disk::{Disk, FileDisk};
 use rr_explain::print_script_fault;
 use rr_files::FileReader;
-use rr_folders::{Closed, Folders, Lockable, Locks, Survey, enter, survey_folders, try_folder};
+use rr_folders::{
+    Closed, Folders, Lockable, Locks, Survey, enter, read_only_disk, survey_folders, try_folder,
+};
 use rr_image::inspect;
 use rr_locked::Open;
 use rr_script::{Answers, Script};
@@ -106,7 +108,7 @@ fn read_folder<R: Files + AllocGlobal>(rt: &R, folder: &str) -> Result<(), Refus
 where
     R::File: FileExt,
 {
-    let mut disk = FileDisk::open_read_only(rt, folder)?;
+    let mut disk = read_only_disk(rt, folder)?;
     let _ = inspect(rt.alloc(), &mut disk)?;
     Ok(())
 }
