@@ -2,7 +2,7 @@
 
 ghost use Rattle.std.specs.Prelude.{◌≡◌, IfOk, IfSome, IsSome};
 ghost use Rattle.rr_frame.specs.Snapshots.{IsSnapshot};
-ghost use Rattle.rr_threads.specs.Snapshotting.{IsBegun, IsWritten};
+ghost use Rattle.rr_threads.specs.Snapshotting.{IsBegun, HoldsMarked, IsWritten};
 
 use crate::desk::{Desk, Due};
 use crate::switching::make_all;
@@ -36,6 +36,7 @@ fn begin<D: Disk>(
 ) -> Result<Option<SwitchJob>, Refusal>
     ensures whole { IfOk result (λ job. IsSome job → (core.now.node ≡ journal.old.node) × (core.now.marked_end ≡ journal.old.next)) }
     ensures begun { IfOk result (λ job. IsBegun journal.old job journal.new) }
+    ensures held { IfOk result (λ job. IfSome job (HoldsMarked core.now journal.old)) }
 {
     let (nodes, node) = journal.owner();
     let next = journal.facts();
