@@ -6,3 +6,4 @@ pub mod Stages
 pub mod Mailing
 pub mod Hearings
 pub mod Places
+pub mod WayLemmas

@@ -1,6 +1,7 @@
 pub mod Agreeing
 pub mod Asking
 pub mod Fates
+pub mod Joins
 pub mod Lacking
 pub mod Rests
 pub mod Reusing

@@ -6,6 +6,7 @@
 ghost use Rattle.std.specs.Prelude.{◌≡◌, length, map, vec_len, IfOk};
 ghost use Rattle.std.specs.List.{range_with_len};
 ghost use Rattle.std.specs.Thread.{IsSend};
+ghost use Rattle.rr_threads.specs.Joins.{AreJoined};
 
 use crate::client::{Client, serve};
 use crate::desk::{Counter, Desk};
@@ -67,7 +68,10 @@ struct HandOvers {
 }
 
 /// Makes the hand-overs of a node. It is `OutOfMemory`.
-fn open_hand_overs(alloc: Global) -> Result<HandOvers, Refusal> {
+fn open_hand_overs(alloc: Global) -> Result<HandOvers, Refusal>
+    ensures groups { IfOk result (λ made. made.groups.0.queue ≡ made.groups.1.queue) }
+    ensures backs { IfOk result (λ made. made.backs.0.queue ≡ made.backs.1.queue) }
+{
     let groups = hand_over(alloc)?;
     match hand_over(alloc) {
         Ok(backs) => Ok(HandOvers { groups, backs }),
@@ -159,6 +163,9 @@ struct Crew<D: Disk> {
 
 /// Shares a node out among its threads.
 fn share_out<D: Disk>(part: Part<D>, hand_overs: HandOvers) -> Crew<D>
+    requires groups { hand_overs.groups.0.queue ≡ hand_overs.groups.1.queue }
+    requires backs { hand_overs.backs.0.queue ≡ hand_overs.backs.1.queue }
+    ensures joined { AreJoined result.flusher result.runner }
     ensures whose { (result.start ≡ part.start) × (result.node ≡ part.node) × (result.core ≡ part.core) }
     ensures holds { (result.flusher.journal ≡ part.journal) × (result.runner.ends.mail ≡ part.mail) }
 {
@@ -365,7 +372,9 @@ fn run_threads<
     runner: Runner,
     follower: &mut Follower<W>,
     seated: Vec<Seated<W, C>>,
-) -> Result<Remains<D, C>, Refusal> {
+) -> Result<Remains<D, C>, Refusal>
+    requires { AreJoined flusher runner }
+{
     thread::scope(
         thread::scope_env(),
         rt,
@@ -401,7 +410,9 @@ fn run_crew<
     crew: Crew<D>,
     ends: Ends<W, C>,
     counters: Vec<Counter<W>>,
-) -> Result<Remains<D, C>, Refusal> {
+) -> Result<Remains<D, C>, Refusal>
+    requires { AreJoined crew.flusher crew.runner }
+{
     let Crew {
         start,
         node,
