@@ -3,9 +3,10 @@
 //! No contract says that a thread runs, nor what it gives at its end. So which threads are started and joined, and that they work over what
 //! they are given, is read: the calls named `start_..` and `join..`, `run_threads` and `run_crew`.
 
-ghost use Rattle.std.specs.Prelude.{◌≡◌, length, map, vec_len, IfOk};
+ghost use Rattle.std.specs.Prelude.{◌≡◌, [], length, map, vec_len, IfOk};
 ghost use Rattle.std.specs.List.{range_with_len};
 ghost use Rattle.std.specs.Thread.{IsSend};
+ghost use Rattle.rr_locked.specs.Listed.{listed};
 ghost use Rattle.rr_threads.specs.Joins.{AreJoined};
 
 use crate::client::{Client, serve};
@@ -125,6 +126,9 @@ fn open_ends<W: WindowName, C: Drop, R: Wait>(
     clients: Vec<C>,
 ) -> Result<Ends<W, C>, Refusal>
     requires { list ≡ W.book }
+    ensures fresh { IfOk result (λ ends. listed ends.follower ≡ []) }
+    ensures clients { IfOk result (λ ends. map (λ s. s.client) ends.seated.items ≡ clients.items) }
+    ensures places { IfOk result (λ ends. map (λ s. s.place) ends.seated.items ≡ range_with_len 0 (length ends.seated.items)) }
 {
     let (follower, seats) = Follower::<W>::open(alloc, list)?;
     match seat_all(alloc, &seats, clients) {
@@ -411,7 +415,8 @@ fn run_crew<
     ends: Ends<W, C>,
     counters: Vec<Counter<W>>,
 ) -> Result<Remains<D, C>, Refusal>
-    requires { AreJoined crew.flusher crew.runner }
+    requires joined { AreJoined crew.flusher crew.runner }
+    requires fresh { listed ends.follower ≡ [] }
 {
     let Crew {
         start,
@@ -425,8 +430,9 @@ fn run_crew<
         seated,
         seats: _seats,
     } = ends;
+    let first = publish_first(rt, &core, &mut follower);
     let desk: Desk<W> = Desk::new(node, start, Locked::new(core), counters);
-    match publish_first(rt, &desk, &mut follower) {
+    match first {
         Ok(published) => shared.note_up(node, published),
         Err(refusal) => shared.running.fail(rt, node, refusal),
     }

@@ -134,13 +134,7 @@ fn run_scope<
     T: Turnstile + Sync,
     R: Threads + Wait + Clock + Sync,
     C: Client + Drop + Send,
->(
-    rt: &'s R,
-    alloc: Global,
-    shared: &'s Shared<'x, T>,
-    parts: Vec<(Part<D>, Vec<C>)>,
-    _agreed: Agreed,
-)
+>(rt: &'s R, alloc: Global, shared: &'s Shared<'x, T>, agreed: Agreed<D, C>)
     requires alike { (one other : D) → D.tells one → D.tells other }
 {
     thread::scope(
@@ -148,7 +142,7 @@ fn run_scope<
         rt,
         |scope|
             requires { IsSend D.row × IsSend C.row × ((one other : D) → D.tells one → D.tells other) }
-        { start_all(scope, rt, alloc, shared, parts) },
+        { start_all(scope, rt, alloc, shared, agreed.into_parts()) },
     );
 }
 
@@ -187,18 +181,18 @@ pub fn run_all<
         return Err(Refusal::BadNodes);
     }
     let parts = open_parts(turnstile, alloc, nodes, disks, clients)?;
-    let Some(agreed) = all_agree(&parts) else {
+    let Some(agreed) = all_agree(parts) else {
         return Err(DIFFERENT);
     };
     let shared = Shared {
         nodes,
         tick,
-        running: Running::new(alloc, count_clients(&parts))?,
+        running: Running::new(alloc, count_clients(agreed.parts()))?,
         recorder,
         switches,
         turnstile,
     };
-    run_scope(rt, alloc, &shared, parts, agreed);
+    run_scope(rt, alloc, &shared, agreed);
     let Shared {
         nodes: _,
         tick: _,

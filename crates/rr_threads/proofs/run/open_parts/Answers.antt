@@ -29,7 +29,7 @@ loop-mail-preserved g c =
     let own : P × C → C = λ p. p.1 in
     let numbered : List (P × C) → Type 0 = λ ps. map (λ p. p.0.node) ps ≡ range_with_len 0 (length ps) in (
       ap (λ ps. map mail ps ++ rest) pushed ∙ left_fewer mail l.parts.items one rest ∙ ap (λ (m : Mail). map mail l.parts.items ++ (m ∷ rest)) c.in_ok-part.ensures.mail
-      ∙ ap (λ ms. map mail l.parts.items ++ ms) (sym left) ∙ l.invariant.0,
+          ∙ ap (λ ms. map mail l.parts.items ++ ms) (sym left) ∙ l.invariant.0,
       subst numbered (sym pushed) (place_more (λ (p : P × C). p.0.node) l.parts.items one l.invariant.1 is_next),
       ap (λ ps. map own ps ++ others) pushed ∙ left_fewer own l.parts.items one others ∙ ap (λ cs. map own l.parts.items ++ cs) (sym clients) ∙ l.invariant.2,
       omega (arith, ap length disks, ap length left, l.invariant.3),

@@ -21,10 +21,10 @@ loop-inbox-preserved c =
     let pushed : c.push.new.self.items ≡ l.mails.items ++ mail ∷ [] = c.in_ok-push.ensures.items in
     let few : length l.rows.items ≡ length (into_iter_items l.inbox-iterator) = l.invariant.1 in (
       ap (λ (ms : List Mail). map (λ m. m.inbox) ms ++ rest) pushed ∙ left_fewer (λ (m : Mail). m.inbox) l.mails.items mail rest
-      ∙ ap (λ is. map (λ (m : Mail). m.inbox) l.mails.items ++ is) (sym left) ∙ l.invariant.0,
+          ∙ ap (λ is. map (λ (m : Mail). m.inbox) l.mails.items ++ is) (sym left) ∙ l.invariant.0,
       omega (arith, ap length popped, ap length left, few),
       All-rest leads c.in-Some-pop_front.ways rows l.rows.items popped l.invariant.2,
       All-same (λ (m : Mail). led_to m.ways.items ≡ names) c.push.new.self.items (l.mails.items ++ mail ∷ []) pushed
-      (All-push (λ (m : Mail). led_to m.ways.items ≡ names) l.mails.items mail l.invariant.3
-      (All-head leads c.in-Some-pop_front.ways rows (All-same leads (c.in-Some-pop_front.ways ∷ rows) l.rows.items (sym popped) l.invariant.2))),
+          (All-push (λ (m : Mail). led_to m.ways.items ≡ names) l.mails.items mail l.invariant.3
+          (All-head leads c.in-Some-pop_front.ways rows (All-same leads (c.in-Some-pop_front.ways ∷ rows) l.rows.items (sym popped) l.invariant.2))),
     )
