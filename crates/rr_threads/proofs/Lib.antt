@@ -7,3 +7,6 @@ pub mod Mailing
 pub mod Hearings
 pub mod Places
 pub mod WayLemmas
+pub mod Taking
+pub mod Errand
+pub mod Belting

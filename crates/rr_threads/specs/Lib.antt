@@ -1,5 +1,7 @@
 pub mod Agreeing
 pub mod Asking
+pub mod Belts
+pub mod Errands
 pub mod Fates
 pub mod Joins
 pub mod Lacking

@@ -46,6 +46,10 @@ IsTaken a None b = (b ≡ a) × HasHeld 0 a.inbox.view
 IsTaken a (Some sent) b =
     (b.inbox.queue ≡ a.inbox.queue) × Takes a.inbox.view sent b.inbox.view × (b.ways ≡ a.ways) × (b.kept ≡ kept_with sent.message.body sent a.kept)
 
+-- it is the mail of the same inbox, with the ways as they were
+abbrev pub HasSameEnds : Mail → Mail → Type 0
+HasSameEnds a b = (b.inbox.queue ≡ a.inbox.queue) × (b.ways ≡ a.ways)
+
 -- a message is put by one of these ways, where there is one, which is then so; the others stay
 abbrev pub PutsBy : Option Way → ℕ → Sent → List Way → List Way → Type 0
 PutsBy None to sent ws vs = vs ≡ ws

@@ -3,7 +3,7 @@
 //! No contract says that a thread runs, nor what it gives at its end. So which threads are started and joined, and that they work over what
 //! they are given, is read: the calls named `start_..` and `join..`, `run_threads` and `run_crew`.
 
-ghost use Rattle.std.specs.Prelude.{◌≡◌, [], length, map, vec_len, IfOk};
+ghost use Rattle.std.specs.Prelude.{◌≡◌, ◌&&◌, [], is_ok, is_some, length, map, vec_len, IfOk};
 ghost use Rattle.std.specs.List.{range_with_len};
 ghost use Rattle.std.specs.Thread.{IsSend};
 ghost use Rattle.rr_locked.specs.Listed.{listed};
@@ -335,7 +335,9 @@ struct Threading<D, C> {
 
 impl<D: Drop, C: Drop> Threading<D, C> {
     /// Whether each thread could be made.
-    fn is_whole(&self) -> bool {
+    fn is_whole(&self) -> bool
+        ensures { result ≡ (is_some self.now.flusher && is_some self.now.runner && is_ok self.now.clients) }
+    {
         self.flusher.is_some() && self.runner.is_some() && self.clients.is_ok()
     }
 
