@@ -301,7 +301,7 @@ def kit(rt, notes):
 def try_over_kept(kept, names, jobs, notes):
     """Tries the edits of these crates of the tree here over what is kept in a folder, once what is lacking there is proved."""
     prover = TREE / "bench" / "prove.py"
-    if subprocess.run([prover, "--tree", ".", "--kept", kept, "--no-tests", *names]).returncode:
+    if subprocess.run([prover, "--tree", ".", "--kept", kept, "--no-tests", "--by-interface", *names]).returncode:
         return 1, set(), {}
     rt = module("prove", prover).kit()
     by_hand, verdicts = kit(rt, notes)
