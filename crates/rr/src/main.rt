@@ -1,9 +1,8 @@
 //! The program `rr`: its words, its streams and its threads, handed to `rr_run`.
 #![tactic(auto)]
 
-use rr_files::HostFiles;
 use rr_run::run;
-use rr_stream::{Counted, Watched};
+use rr_stream::{Counted, HostFiles, Watched};
 use rr_talk::Prompted;
 use std::io::IsTerminal;
 use std::process::ExitCode;
