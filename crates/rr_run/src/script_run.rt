@@ -19,7 +19,7 @@ use rr_cli::{Form, end_by_refusal, end_by_stream, end_by_text, nodes_of, print_f
 use rr_disk::{FileDisk, OpenedFile};
 use rr_explain::print_script_fault;
 use rr_folders::{Closed, Folders, Lockable, Locks, Survey, enter, survey_folders, try_folder};
-use rr_image::inspect;
+use rr_journal::inspect;
 use rr_locked::Open;
 use rr_script::{Answers, Script};
 use rr_stream::{FileReader, Sink, Source, read_all};
