@@ -1,2 +1,7 @@
 pub mod NumberCalls
 pub mod Requests
+pub mod Clusters
+pub mod ClusterTexts
+pub mod Fronts
+pub mod Judging
+pub mod Reading

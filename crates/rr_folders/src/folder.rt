@@ -3,10 +3,12 @@
 ghost use Rattle.std.specs.Prelude.{◌≡◌, length, IfOk};
 
 use crate::closed::{Closed, done};
+use crate::cluster::Cluster;
 use crate::forming::{are_formatted, begin, conclude, open_disks, take_on, tidy};
+use crate::front::Content;
+use crate::judging::{Verdict, judge};
 use crate::lock::{Lockable, Locks};
 use crate::seen::{Seen, cluster_in, is_there, look_at};
-use rr_cluster::{Cluster, Content, Verdict, judge};
 use rr_disk::{FileDisk, OpenedFile, make_folder};
 use rr_types::Nodes;
 use std::fs;

@@ -4,10 +4,11 @@
 ghost use Rattle.std.specs.Prelude.{◌≡◌, ◌<◌, length, IfOk};
 
 use crate::closed::{Closed, done};
+use crate::cluster::{Cluster, Identity, Mark};
 use crate::folder::{Survey, remove_made};
+use crate::front::AreaFront;
 use crate::lock::{Lockable, Locks};
 use crate::seen::Seen;
-use rr_cluster::{AreaFront, Cluster, Identity, Mark};
 use rr_disk::{FileDisk, OpenedFile, make_folder};
 use rr_journal::Journal;
 use rr_types::{NodeId, NodeSet, Nodes, Refusal};

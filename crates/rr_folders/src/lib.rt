@@ -19,16 +19,23 @@
 #![tactic(auto)]
 
 mod closed;
+mod cluster;
+mod cluster_parse;
+mod cluster_text;
 mod folder;
 mod forming;
+mod front;
+mod judging;
 mod lock;
 mod number_file;
 mod requests;
 mod seen;
 
 pub use closed::Closed;
+pub use cluster::Cluster;
 pub use folder::{Folders, Survey, enter, open_folders, survey_folders};
 pub use forming::try_folder;
+pub use judging::Fault;
 pub use lock::{Lockable, Locks};
 pub use number_file::{NumberFile, reserve};
 pub use requests::{Block, greatest_in, reserve_in};

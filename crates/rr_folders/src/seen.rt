@@ -1,8 +1,10 @@
 //! What is found of a cluster's folders before any is opened. Nothing is written.
 
 use crate::closed::{Closed, done, failed};
+use crate::cluster::{Cluster, Mark};
+use crate::front::{AreaFront, Content, content_of, front_of};
+use crate::judging::Found;
 use crate::lock::Locks;
-use rr_cluster::{AreaFront, Cluster, Content, Found, Mark, content_of, front_of};
 use rr_types::Nodes;
 use std::fs;
 use std::fs::OpenFile;

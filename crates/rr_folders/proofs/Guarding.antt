@@ -3,18 +3,18 @@ use Rattle.std.proofs.Common.{◌≡◌, ℕ, ◌+◌, Bool, true, false, cond, 
 use Rattle.std.specs.List.{list_all}
 use Rattle.std.proofs.lemmas.Bool.{and_parts, eqb-true}
 use Rattle.rr_types.specs.Nodes.{has_member}
-use Rattle.rr_cluster.specs.declared.cluster.Identity.{Identity}
-use Rattle.rr_cluster.specs.declared.cluster.Cluster.{Cluster}
-use Rattle.rr_cluster.specs.declared.cluster.Mark.{Mark}
-use Rattle.rr_cluster.specs.declared.front.Content.{Content}
-use Rattle.rr_cluster.specs.declared.front.Content.TheVariants as contents
-use Rattle.rr_cluster.specs.declared.judging.Found.{Found}
-use Rattle.rr_cluster.specs.declared.judging.Fault.{Fault}
-use Rattle.rr_cluster.specs.declared.judging.Fault.TheVariants.{OtherNode, OtherNodes, OtherCluster}
-use Rattle.rr_cluster.specs.declared.judging.Verdict.{Verdict}
-use Rattle.rr_cluster.specs.declared.judging.Verdict.TheVariants.{Open, Begin, TakeOn, Refused}
-use Rattle.rr_cluster.specs.Clusters.{same_identity}
-use Rattle.rr_cluster.specs.Judging.{mark_fault, owner_fault, loss_fault, unmarked_fault, ◌or_else◌, disk_fault, fault_of, at_or, first_fault, refused_or, is_blank, is_unmarked, is_fresh, first_identity, identity_or, verdict_of, Each, HasDisk, KeepsItsDisk, IsFresh, Guards}
+use Rattle.rr_folders.specs.declared.cluster.Identity.{Identity}
+use Rattle.rr_folders.specs.declared.cluster.Cluster.{Cluster}
+use Rattle.rr_folders.specs.declared.cluster.Mark.{Mark}
+use Rattle.rr_folders.specs.declared.front.Content.{Content}
+use Rattle.rr_folders.specs.declared.front.Content.TheVariants as contents
+use Rattle.rr_folders.specs.declared.judging.Found.{Found}
+use Rattle.rr_folders.specs.declared.judging.Fault.{Fault}
+use Rattle.rr_folders.specs.declared.judging.Fault.TheVariants.{OtherNode, OtherNodes, OtherCluster}
+use Rattle.rr_folders.specs.declared.judging.Verdict.{Verdict}
+use Rattle.rr_folders.specs.declared.judging.Verdict.TheVariants.{Open, Begin, TakeOn, Refused}
+use Rattle.rr_folders.specs.Clusters.{same_identity}
+use Rattle.rr_folders.specs.Judging.{mark_fault, owner_fault, loss_fault, unmarked_fault, ◌or_else◌, disk_fault, fault_of, at_or, first_fault, refused_or, is_blank, is_unmarked, is_fresh, first_identity, identity_or, verdict_of, Each, HasDisk, KeepsItsDisk, IsFresh, Guards}
 
 -- ---- one folder
 
