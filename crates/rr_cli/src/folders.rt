@@ -6,8 +6,8 @@ ghost use Rattle.rr_cli.specs.Clusters.{IsRead, AreRead};
 
 use crate::folder_faults::print_folder_fault;
 use rr_disk::FileDisk;
+use rr_folders::{Reading, read_disk};
 use rr_types::{MAX_NODES, Refusal};
-use rr_verify::{Reading, read_disk};
 use std::alloc::AllocError;
 use std::io;
 use std::io::Write;

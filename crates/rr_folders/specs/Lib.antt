@@ -5,3 +5,7 @@ pub mod ClusterTexts
 pub mod Fronts
 pub mod Judging
 pub mod Reading
+pub mod Folders
+pub mod Agreement
+pub mod Exports
+pub mod Texts
