@@ -2,8 +2,8 @@
 #![tactic(auto)]
 
 use rr_run::run;
+use rr_shell::Prompted;
 use rr_stream::{Counted, HostFiles, Watched};
-use rr_talk::Prompted;
 use std::io::IsTerminal;
 use std::process::ExitCode;
 use std::{env, io};
