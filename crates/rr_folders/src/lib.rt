@@ -1,6 +1,11 @@
-//! The folders of a cluster, as a program opens them: node P's is `DIR/P`, and `DIR/cluster` says which cluster they are.
-//! `open_folders` locks them, judges what it finds as `rr_cluster` says, and writes what is missing where a cluster begins.
-//! `survey_folders` and `enter` are its two halves. `Locks` holds their locks, and reserves request numbers in a locked folder.
+//! The folders of a cluster: node P's is `DIR/P`, and `DIR/cluster` says which cluster they are. A node whose disk is lost or blank
+//! has forgotten its promises, and must not be taken for a fresh one.
+//! - Judging reads and writes no file. The file `cluster` says how many nodes there are and which of them have been formatted (`Cluster`).
+//!   The file `node` in a node's folder says whose it is. By these, `judge` says whether folders as they were found may be opened.
+//! - `open_folders` locks them, judges what it finds, and writes what is missing where a cluster begins. `survey_folders` and `enter`
+//!   are its two halves. `Locks` holds their locks, and reserves request numbers in a locked folder.
+//! - `read_disk` reads what a folder holds, and `verify` says whether those of a cluster agree. `verdict_text` prints that, and
+//!   `export` the registry of what they decided. None of them writes.
 //!
 //! # Example
 //!
