@@ -171,7 +171,7 @@ after_stage n w p f l I = record {
   told = I.told;
 }
 
-settled_whole : (w : World) (p count : ℕ) → settled w p count ++ drop count (w.staged p) ≡ w.kept p ++ w.staged p
+pub settled_whole : (w : World) (p count : ℕ) → settled w p count ++ drop count (w.staged p) ≡ w.kept p ++ w.staged p
 settled_whole w p count = append_assoc (w.kept p) (take count (w.staged p)) (drop count (w.staged p)) ∙ ap (λ z. w.kept p ++ z) (take-append-drop count (w.staged p))
 
 pub settled_history : (n : ℕ) (w : World) (p count : ℕ) → Invariant n w → History n p (all_said w) (settled w p count)

@@ -13,6 +13,7 @@ pub mod Listed
 pub mod Invariants
 pub mod Soundness
 pub mod Laws
+pub mod CrashedNodes
 pub mod SmallRuns
 pub mod Searches
 pub mod ClusterRuns

@@ -45,7 +45,7 @@ pub sound_list : (n : ℕ) (run : List Step) → HasDecidedList n run
 sound_list n run = decided_list n (end_of run).wire
 
 -- a list of chosen commands is a beginning of each longer one
-chosen_begins : (n : ℕ) (run : List Step) → IsRun n run → (xs ys : List Command) → IsChosenList n (end_of run).wire xs → IsChosenList n (end_of run).wire ys → length xs ≤ length ys → Begins xs ys
+pub chosen_begins : (n : ℕ) (run : List Step) → IsRun n run → (xs ys : List Command) → IsChosenList n (end_of run).wire xs → IsChosenList n (end_of run).wire ys → length xs ≤ length ys → Begins xs ys
 chosen_begins n run r xs ys cx cy l = begins_by_places xs ys l (λ k v w a b. sound_one_chosen n run r k v w (cx k v a) (cy k w b))
 
 pub sound_one_list : (n : ℕ) (run : List Step) → IsRun n run → IsOneDecidedList n run

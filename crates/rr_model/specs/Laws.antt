@@ -1,4 +1,5 @@
--- Laws of runs: what is chosen or kept stays so, the decided list grows, a majority locks its command, replies keep real time.
+-- Laws of runs: what is chosen or kept stays so, the decided list grows, a majority locks its command, replies keep real time,
+-- and what a crash leaves of the nodes agrees.
 use Rattle.std.specs.Prelude.{◌≡◌, ℕ, ◌<◌, ◌≤◌, IsTrue, List, [], ◌∷◌, ◌++◌, length, take, Some, slice_get}
 use Rattle.std.specs.List.{Contains, fold}
 use Rattle.rr_types.specs.declared.command.Command.{Command}
@@ -8,12 +9,12 @@ use Rattle.rr_types.specs.declared.fact.Fact.{Fact}
 use Rattle.rr_types.specs.declared.fact.Fact.TheVariants.{Enter}
 use Rattle.rr_types.specs.declared.message.Body.TheVariants.{Estimate, Proposal, Ack}
 use Rattle.rr_types.specs.Rounds.{Estimated}
-use Rattle.rr_types.specs.Facts.{instance_of, standing_of}
+use Rattle.rr_types.specs.Facts.{instance_of, standing_of, decision_of}
 use Rattle.rr_types.specs.Registry.{reply_of}
 use Rattle.rr_types.specs.Promises.{standing_in, promise_of, all_fit}
 use Rattle.rr_types.specs.Standings.{fits}
 use Rattle.rr_model.specs.Lawful.{Heard, Says, HasMajority, IsLawful}
-use Rattle.rr_model.specs.World.{World, Step, Acknowledged, after_step, IsRun, end_of}
+use Rattle.rr_model.specs.World.{World, Step, Acknowledged, decided_prefix, after_step, IsRun, end_of}
 use Rattle.rr_model.specs.Sound.{IsChosen, IsDecidedList}
 
 -- the world after these steps
@@ -100,3 +101,23 @@ DoesPromiseStand facts = (i : ℕ) → standing_in (promise_of facts) i ≡ stan
 abbrev pub DoLawfulFactsFit : ℕ → ℕ → List Fact → Type 0
 DoLawfulFactsFit n p facts =
     (h : Heard) (f : Fact) → IsLawful n p facts h f → IsTrue (fits n p (standing_of (instance_of f) facts) f)
+
+-- whatever a crash leaves of each, no two nodes decide an instance differently
+abbrev pub DoCrashedNodesDecideAlike : List Step → Type 0
+DoCrashedNodesDecideAlike run =
+    (p q count other i : ℕ) (v w : Command)
+    → decision_of (standing_of i (settled (end_of run) p count)) ≡ Some v
+    → decision_of (standing_of i (settled (end_of run) q other)) ≡ Some w
+    → v ≡ w
+
+-- what a node has decided without a gap by what a crash leaves is a beginning of the decided list
+abbrev pub DoCrashedNodesBeginTheList : ℕ → List Step → Type 0
+DoCrashedNodesBeginTheList n run =
+    (list : List Command) → IsDecidedList n (end_of run).wire list
+    → (p count : ℕ) → (more : List Command) × (list ≡ decided_prefix (settled (end_of run) p count) ++ more)
+
+-- and it gives each reply that the node has acknowledged
+abbrev pub DoCrashedNodesKnowTheirReplies : List Step → Type 0
+DoCrashedNodesKnowTheirReplies run =
+    (p count : ℕ) (q : RequestNo) (reply : Reply) → Contains (end_of run).trace (Acknowledged p q reply)
+    → reply_of (decided_prefix (settled (end_of run) p count)) q ≡ Some reply

@@ -50,7 +50,7 @@ ghost use Rattle.rr_model.specs.Sound.{IsSound, IsChosen, IsDecidedList};
 ghost use Rattle.rr_model.specs.NoDeadEnd.{NoDeadEnd, EachCanBeServed};
 ghost use Rattle.rr_model.specs.NodesGoOn.{NodesCanGoOn, RoundsCanEnd, DecisionsCanBeLearned};
 ghost use Rattle.rr_model.specs.NodesRestart.{GapsCanBeFilled, DecidedCanBeAcknowledged, RequestsCanBeServed};
-ghost use Rattle.rr_model.specs.Laws.{after_steps, AreBeginningsRuns, StaysChosen, DoesListGrow, AreKeptFactsNeverLost, DoRoundsRise, DoAcksBind, AreProposalsLocked, KeepsRealTime, DoLaterCommandsStandBehind, DoesWhatIsLeftFit, DoesPromiseStand, DoLawfulFactsFit};
+ghost use Rattle.rr_model.specs.Laws.{after_steps, AreBeginningsRuns, StaysChosen, DoesListGrow, AreKeptFactsNeverLost, DoRoundsRise, DoAcksBind, AreProposalsLocked, KeepsRealTime, DoLaterCommandsStandBehind, DoCrashedNodesDecideAlike, DoCrashedNodesBeginTheList, DoCrashedNodesKnowTheirReplies, DoesWhatIsLeftFit, DoesPromiseStand, DoLawfulFactsFit};
 
 /// Agreement and durability: every run of any number of nodes is sound, whatever is lost, repeated, reordered,
 /// suspected, crashed and restarted.
@@ -98,6 +98,15 @@ pub fn laws_of_runs()
 pub fn order_in_real_time()
     ensures acknowledged_comes_first { (n : ℕ) (run : List Step) → IsRun n run → KeepsRealTime n run }
     ensures later_commands_stand_behind { (n : ℕ) (run : List Step) → IsRun n run → DoLaterCommandsStandBehind n run }
+{}
+
+/// Nodes agree by what crashes leave of their facts, whichever of the staged ones that are. No two of them decide an
+/// instance differently. What a node has decided without a gap is a beginning of the decided list, and gives each reply
+/// that the node has acknowledged.
+pub fn crashed_nodes_agree()
+    ensures they_decide_alike { (n : ℕ) (run : List Step) → IsRun n run → DoCrashedNodesDecideAlike run }
+    ensures they_begin_the_list { (n : ℕ) (run : List Step) → IsRun n run → DoCrashedNodesBeginTheList n run }
+    ensures they_know_their_replies { (n : ℕ) (run : List Step) → IsRun n run → DoCrashedNodesKnowTheirReplies run }
 {}
 
 /// Laws of facts: what a promise says, that lawful facts fit, and which commands are one.
