@@ -4,6 +4,7 @@ pub mod ClusterReading
 pub mod Guarding
 pub mod AgreementLemmas
 pub mod OneList
+pub mod CrashedFolders
 pub mod BoundLemmas
 pub mod ExportLemmas
 pub mod ReadingLemmas

@@ -7,5 +7,6 @@ pub mod Judging
 pub mod Reading
 pub mod Folders
 pub mod Agreement
+pub mod Crashed
 pub mod Exports
 pub mod Texts

@@ -1,7 +1,9 @@
 //! Whether the folders of a cluster agree.
 
-ghost use Rattle.std.specs.Prelude.{◌≡◌, ◌↔◌, ◌++◌, ◌+◌, ◌^◌, ◌<◌, [], true, length, IfOk, OnOk};
+ghost use Rattle.std.specs.Prelude.{◌≡◌, ◌↔◌, List, ◌++◌, ◌+◌, ◌^◌, ◌<◌, [], true, length, IfOk, OnOk};
 ghost use Rattle.std.specs.List.{AllByRecursion};
+ghost use Rattle.rr_model.specs.World.{Step, IsRun};
+ghost use Rattle.rr_folders.specs.Crashed.{AreLeftBy};
 ghost use Rattle.rr_folders.specs.Agreement.{fits_at, all_fit_from, clashes_between, clashes_with, clashes_from, Alike, AllAlike, Agree, HaveOneList};
 
 use crate::difference::{Difference, first_difference};
@@ -133,6 +135,8 @@ pub fn verify(alloc: Global, readings: &[Reading]) -> Result<Verdict, AllocError
     ensures agree { IfOk result (λ v. (v.agree ≡ true) ↔ Agree readings.now) }
     // Then what they have decided are beginnings of one list.
     ensures one_list { IfOk result (λ v. v.agree ≡ true → HaveOneList readings.now) }
+    // Folders as crashes leave those of a run's nodes agree. So where they don't, a disk or a person changed them.
+    ensures crashed { IfOk result (λ v. (run : List Step) → IsRun (length readings.now) run → AreLeftBy run readings.now → v.agree ≡ true) }
     ensures clashes { IfOk result (λ v. v.clashes.items ≡ clashes_from 0 readings.now) }
     // There is none exactly if no two decide an instance differently.
     ensures alike { IfOk result (λ v. (v.clashes.items ≡ []) ↔ AllAlike readings.now) }
