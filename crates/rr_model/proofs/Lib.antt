@@ -14,6 +14,9 @@ pub mod Invariants
 pub mod Soundness
 pub mod Laws
 pub mod CrashedNodes
+pub mod DeedsInWorld
+pub mod DeedAgrees
+pub mod SmallHistories
 pub mod SmallRuns
 pub mod Searches
 pub mod ClusterRuns

@@ -18,3 +18,4 @@ pub mod NodeInWorld
 pub mod NoDeadEnd
 pub mod NodesGoOn
 pub mod NodesRestart
+pub mod Deeds

@@ -22,6 +22,8 @@
 //! ```
 #![tactic(auto)]
 
+mod deed;
+
 ghost use Rattle.std.specs.Prelude.{◌≡◌, ℕ, Bool, List, [], ◌∷◌, ◌++◌, ◌↔◌, Option, None, Some, IsTrue};
 ghost use Rattle.std.specs.List.{Contains};
 ghost use Rattle.rr_types.specs.declared.command.Command.{Command};
@@ -47,10 +49,14 @@ ghost use Rattle.rr_model.specs.World.{World, Step, Acknowledged, Reported, deci
 ghost use Rattle.rr_model.specs.Examples.{first_request, claim_a_x, to_itself, first_estimate, decides_and_acknowledges, told_by_it, stages_and_crashes, goes_on, IsProposeOfAnotherUnlawful, IsAdoptBelowTheStampUnlawful, IsDecideWithoutMajorityUnlawful, IsEnterWithMadeUpCommandUnlawful};
 ghost use Rattle.rr_model.specs.ClusterExamples.{claim_a_y, round_stamp, first_round, two_rounds, IsDecideUnheardUnlawful, IsProposeOfAnotherCommandUnlawful, kept_over_two_rounds, decides_by_the_others, kept_by_it, crashes_before_it_tells, enters_anew, tells_it_now, IsLostEstimateUnlawful, decides_instance_1, decides_out_of_order, decides_twice, registry_of_one_claim};
 ghost use Rattle.rr_model.specs.Sound.{IsSound, IsChosen, IsDecidedList};
+ghost use Rattle.rr_model.specs.declared.deed.Deed.{Deed};
+ghost use Rattle.rr_model.specs.Deeds.{IsHistory, OpensWell, AgreesWithOneList as AgreesWithOne, first_start, IsFirstStartEmpty, HearsNothingUnsent, DoesNothingDown};
 ghost use Rattle.rr_model.specs.NoDeadEnd.{NoDeadEnd, EachCanBeServed};
 ghost use Rattle.rr_model.specs.NodesGoOn.{NodesCanGoOn, RoundsCanEnd, DecisionsCanBeLearned};
 ghost use Rattle.rr_model.specs.NodesRestart.{GapsCanBeFilled, DecidedCanBeAcknowledged, RequestsCanBeServed};
 ghost use Rattle.rr_model.specs.Laws.{after_steps, AreBeginningsRuns, StaysChosen, DoesListGrow, AreKeptFactsNeverLost, DoRoundsRise, DoAcksBind, AreProposalsLocked, KeepsRealTime, DoLaterCommandsStandBehind, DoCrashedNodesDecideAlike, DoCrashedNodesBeginTheList, DoCrashedNodesKnowTheirReplies, DoesWhatIsLeftFit, DoesPromiseStand, DoLawfulFactsFit};
+
+pub use deed::{Deed, What};
 
 /// Agreement and durability: every run of any number of nodes is sound, whatever is lost, repeated, reordered,
 /// suspected, crashed and restarted.
@@ -107,6 +113,22 @@ pub fn crashed_nodes_agree()
     ensures they_decide_alike { (n : ℕ) (run : List Step) → IsRun n run → DoCrashedNodesDecideAlike run }
     ensures they_begin_the_list { (n : ℕ) (run : List Step) → IsRun n run → DoCrashedNodesBeginTheList n run }
     ensures they_know_their_replies { (n : ℕ) (run : List Step) → IsRun n run → DoCrashedNodesKnowTheirReplies run }
+{}
+
+/// A history of what nodes do, with their stops and starts, agrees with one list of commands: whatever their hosts do, and
+/// in whichever order. Its one premise is that each start finds on its disk the facts that its node had marked, and a
+/// beginning of those behind them.
+pub fn histories_agree()
+    ensures { (n : ℕ) (deeds : List Deed) → IsHistory n deeds → OpensWell n deeds → AgreesWithOne n deeds }
+{}
+
+/// Small histories show that the definitions can be met, and what they forbid.
+pub fn examples_of_histories()
+    ensures a_start_over_nothing { IsHistory 1 first_start }
+    ensures it_finds_its_facts { OpensWell 1 first_start }
+    ensures a_first_start_finds_nothing { IsFirstStartEmpty }
+    ensures what_nobody_sent_is_not_heard { HearsNothingUnsent }
+    ensures a_node_that_is_down_does_nothing { DoesNothingDown }
 {}
 
 /// Laws of facts: what a promise says, that lawful facts fit, and which commands are one.
