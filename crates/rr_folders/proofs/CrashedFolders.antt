@@ -1,7 +1,7 @@
 -- Folders as crashes leave them agree, and the longest of their lists begins the decided list and has each reply.
-use Rattle.std.proofs.Common.{◌≡◌, ℕ, ◌+◌, ◌<◌, ◌≤◌, Bool, true, false, ◌==◌, nat_lt, if◌then◌else◌, List, [], ◌∷◌, ◌++◌, length, take, drop, Contains, Some, refl, sym, ap, ◌∙◌, arith, subst, eqb-true, ltb-true, ltb-false, append-nil, append_assoc}
+use Rattle.std.proofs.Common.{◌≡◌, ℕ, ◌+◌, ◌<◌, ◌≤◌, Bool, true, false, ◌==◌, nat_lt, if◌then◌else◌, List, [], ◌∷◌, ◌++◌, length, take, drop, Contains, Some, inl, inr, refl, sym, ap, ◌∙◌, arith, subst, eqb-true, ltb-true, ltb-false, append-nil, append_assoc}
 use Rattle.std.specs.List.{AllByRecursion, fold}
-use Rattle.std.proofs.lemmas.Bool.{eqb-false}
+use Rattle.std.proofs.lemmas.Bool.{eqb-false, cases_lt}
 use Rattle.std.proofs.lemmas.List.{take_at, take-take, take-append-drop}
 use Rattle.rr_types.specs.declared.command.Command.{Command}
 use Rattle.rr_types.specs.declared.command.RequestNo.{RequestNo}
@@ -29,7 +29,7 @@ decided_by_facts : (facts : List Fact) (i : ℕ) (c : Command) → decided_at (p
 decided_by_facts facts i c one = sym (ap decision_of (standing_in-promise_of facts i)) ∙ one
 
 alike_left : (n : ℕ) (run : List Step) → IsRun n run → (p q : ℕ) (r s : Reading) → IsLeftOf n (end_of run) p r → IsLeftOf n (end_of run) q s → Alike r s
-alike_left n run is p q (Facts f) (Facts g) x y i c d one other =
+alike_left n run is p q (Facts f) (Facts g) x y = λ i c d one other.
     decide_alike n run is p q (x.2).0 (y.2).0 i c d
     (decided_by_facts (settled (end_of run) p (x.2).0) i c (subst (λ es. decided_at es i ≡ Some c) (x.2).1 one))
     (decided_by_facts (settled (end_of run) q (y.2).0) i d (subst (λ es. decided_at es i ≡ Some d) (y.2).1 other))
@@ -119,20 +119,19 @@ longest_begins run rs is left list d = (longest_left run rs is left list d).begi
 
 known_from : (n : ℕ) (run : List Step) → IsRun n run → (k : ℕ) (rs : List Reading) (whole : List Command) → AreLeftFrom n (end_of run) k rs → AllByRecursion (λ r. IsBeginningOf whole (decided_of r)) rs → (p : ℕ) → k ≤ p → p < k + length rs → (q : RequestNo) (reply : Reply) → Contains (end_of run).trace (Acknowledged p q reply) → reply_of whole q ≡ Some reply
 known_from n run is k [] whole left all p low high q reply told = absurd (omega arith)
-known_from n run is k (r ∷ rs) whole left all p low high q reply told = at (k == p) refl
+known_from n run is k (r ∷ rs) whole left all p low high q reply told =
+    by (k == p) refl (λ other. known_from n run is (k + 1) rs whole left.1 all.1 p (above k p low other) (omega arith) q reply told)
   where
-    at : (b : Bool) → (k == p) ≡ b → reply_of whole q ≡ Some reply
-    at true e =
+    above : (k p : ℕ) → k ≤ p → (k ≡ p → ⊥) → k + 1 ≤ p
+    above k p l ne = elim (cases_lt k p) [ inl less ↦ omega arith | inr more ↦ absurd (ne (omega arith)) ]
+
+    by : (b : Bool) → (k == p) ≡ b → ((k ≡ p → ⊥) → reply_of whole q ≡ Some reply) → reply_of whole q ≡ Some reply
+    by true e later =
         let x : (count : ℕ) × (decided_of r ≡ decided_prefix (settled (end_of run) k count)) = decided_left n (end_of run) k r left.0 in
         let here : Contains (end_of run).trace (Acknowledged k q reply) = subst (λ j. Contains (end_of run).trace (Acknowledged j q reply)) (sym (eqb-true k p e)) told in
         let known : reply_of (decided_of r) q ≡ Some reply = subst (λ z. reply_of z q ≡ Some reply) (sym x.1) (know_their_replies n run is k x.0 q reply here) in
         subst (λ z. reply_of z q ≡ Some reply) (sym (all.0).1) (same_reply (decided_of r) (all.0).0 q reply known)
-    at false e =
-        let other : k ≡ p → ⊥ = eqb-false k p e in
-        known_from n run is (k + 1) rs whole left.1 all.1 p (above k p low other) (omega arith) q reply told
-
-    above : (k p : ℕ) → k ≤ p → (k ≡ p → ⊥) → k + 1 ≤ p
-    above k p l ne = omega (arith, ne)
+    by false e later = later (eqb-false k p e)
 
 -- and has each reply that one of their nodes has acknowledged
 pub longest_knows : (run : List Step) (rs : List Reading) → IsRun (length rs) run → AreLeftBy run rs → (p : ℕ) (q : RequestNo) (reply : Reply) → p < length rs → Contains (end_of run).trace (Acknowledged p q reply) → reply_of (longest_decided rs) q ≡ Some reply

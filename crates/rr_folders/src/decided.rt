@@ -64,6 +64,20 @@ fn entries_of(reading: &Reading) -> &[Kept]
     }
 }
 
+// The longest of the lists that folders have decided.
+fn longest_of(alloc: Global, readings: &[Reading]) -> Result<Vec<Command>, AllocError>
+    ensures { IfOk result (λ v. v.items ≡ longest_decided readings.now) }
+{
+    let mut longest: &[Kept] = &[];
+    for reading in readings {
+        let entries = entries_of(reading);
+        if decided_count(longest) < decided_count(entries) {
+            longest = entries;
+        }
+    }
+    decided_commands(alloc, longest)
+}
+
 /// The longest of the lists that folders have decided, the first one among those as long.
 ///
 /// # Errors
@@ -75,14 +89,8 @@ pub fn longest_decided(alloc: Global, readings: &[Reading]) -> Result<Vec<Comman
     // and has each reply that one of them has acknowledged.
     ensures knows { IfOk result (λ v. (run : List Step) (p : ℕ) (q : RequestNo) (reply : Reply) → IsRun (length readings.now) run → AreLeftBy run readings.now → p < length readings.now → Contains (end_of run).trace (Acknowledged p q reply) → reply_of v.items q ≡ Some reply) }
 {
-    let mut longest: &[Kept] = &[];
-    for reading in readings {
-        let entries = entries_of(reading);
-        if decided_count(longest) < decided_count(entries) {
-            longest = entries;
-        }
-    }
-    decided_commands(alloc, longest)
+    let longest = longest_of(alloc, readings)?;
+    Ok(longest)
 }
 
 /// A decided list, as a report ends with it: `decided N`, then N lines `I C.S OP`.

@@ -1,4 +1,4 @@
-use Rattle.std.proofs.Common.{◌≡◌, ◌∙◌, Some, sym, ap, arith}
+use Rattle.std.proofs.Common.{◌∙◌, Some, sym, ap, arith}
 use Rattle.rr_types.specs.declared.promise.Entry.{Entry}
 use Rattle.rr_types.specs.Facts.{decision_of}
 use Rattle.rr_folders.specs.Agreement.{difference}
