@@ -1,17 +1,9 @@
 //! What folders have decided.
 
-ghost use Rattle.std.specs.Prelude.{◌≡◌, ◌<◌, ℕ, List, [], ◌∷◌, ◌++◌, length, Some, codes, decimal, IfOk};
-ghost use Rattle.std.specs.List.{Contains};
-ghost use Rattle.rr_types.specs.declared.command.Command.{Command};
-ghost use Rattle.rr_types.specs.declared.command.RequestNo.{RequestNo};
-ghost use Rattle.rr_types.specs.declared.command.Reply.{Reply};
-ghost use Rattle.rr_types.specs.Registry.{reply_of};
-ghost use Rattle.rr_model.specs.World.{Step, Acknowledged, IsRun, end_of};
-ghost use Rattle.rr_model.specs.Sound.{IsDecidedList};
-ghost use Rattle.rr_folders.specs.Crashed.{AreLeftBy};
+ghost use Rattle.std.specs.Prelude.{◌≡◌, [], ◌∷◌, ◌++◌, length, codes, decimal, IfOk};
 ghost use Rattle.rr_types.specs.Promises.{decided_from};
 ghost use Rattle.rr_text.specs.ReportTexts.{line, decided_lines};
-ghost use Rattle.rr_folders.specs.Agreement.{decided_of, longest_decided, IsBeginningOf};
+ghost use Rattle.rr_folders.specs.Agreement.{decided_of, longest_decided};
 
 use crate::verify_folder::Reading;
 use rr_text::text_report::push_decided_list;
@@ -64,8 +56,11 @@ fn entries_of(reading: &Reading) -> &[Kept]
     }
 }
 
-// The longest of the lists that folders have decided.
-fn longest_of(alloc: Global, readings: &[Reading]) -> Result<Vec<Command>, AllocError>
+/// The longest of the lists that folders have decided, the first one among those as long.
+///
+/// # Errors
+/// Memory alone.
+pub fn longest_decided(alloc: Global, readings: &[Reading]) -> Result<Vec<Command>, AllocError>
     ensures { IfOk result (λ v. v.items ≡ longest_decided readings.now) }
 {
     let mut longest: &[Kept] = &[];
@@ -76,21 +71,6 @@ fn longest_of(alloc: Global, readings: &[Reading]) -> Result<Vec<Command>, Alloc
         }
     }
     decided_commands(alloc, longest)
-}
-
-/// The longest of the lists that folders have decided, the first one among those as long.
-///
-/// # Errors
-/// Memory alone.
-pub fn longest_decided(alloc: Global, readings: &[Reading]) -> Result<Vec<Command>, AllocError>
-    ensures longest { IfOk result (λ v. v.items ≡ longest_decided readings.now) }
-    // Of folders as crashes leave those of a run's nodes it is a beginning of the decided list,
-    ensures begins { IfOk result (λ v. (run : List Step) (list : List Command) → IsRun (length readings.now) run → AreLeftBy run readings.now → IsDecidedList (length readings.now) (end_of run).wire list → IsBeginningOf list v.items) }
-    // and has each reply that one of them has acknowledged.
-    ensures knows { IfOk result (λ v. (run : List Step) (p : ℕ) (q : RequestNo) (reply : Reply) → IsRun (length readings.now) run → AreLeftBy run readings.now → p < length readings.now → Contains (end_of run).trace (Acknowledged p q reply) → reply_of v.items q ≡ Some reply) }
-{
-    let longest = longest_of(alloc, readings)?;
-    Ok(longest)
 }
 
 /// A decided list, as a report ends with it: `decided N`, then N lines `I C.S OP`.

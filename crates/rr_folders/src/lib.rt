@@ -55,5 +55,5 @@ pub use lock::{Lockable, Locks};
 pub use number_file::{NumberFile, reserve};
 pub use requests::{Block, greatest_in, reserve_in};
 pub use telling::verdict_text;
-pub use verdict::{Verdict, verify};
+pub use verdict::{Verdict, crashed_folders_agree, verify};
 pub use verify_folder::{Reading, read_disk};

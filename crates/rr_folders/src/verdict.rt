@@ -1,10 +1,17 @@
 //! Whether the folders of a cluster agree.
 
-ghost use Rattle.std.specs.Prelude.{◌≡◌, ◌↔◌, List, ◌++◌, ◌+◌, ◌^◌, ◌<◌, [], true, length, IfOk, OnOk};
+ghost use Rattle.std.specs.Prelude.{◌≡◌, ◌↔◌, ℕ, List, Some, ◌++◌, ◌+◌, ◌^◌, ◌<◌, [], true, length, IfOk, OnOk};
 ghost use Rattle.std.specs.List.{AllByRecursion};
-ghost use Rattle.rr_model.specs.World.{Step, IsRun};
+ghost use Rattle.std.specs.List.{Contains};
+ghost use Rattle.rr_types.specs.declared.command.Command.{Command as Decided};
+ghost use Rattle.rr_types.specs.declared.command.RequestNo.{RequestNo};
+ghost use Rattle.rr_types.specs.declared.command.Reply.{Reply};
+ghost use Rattle.rr_types.specs.Registry.{reply_of};
+ghost use Rattle.rr_model.specs.Sound.{IsDecidedList};
+ghost use Rattle.rr_model.specs.World.{Step, Acknowledged, IsRun, end_of};
+ghost use Rattle.rr_folders.specs.declared.verify_folder.Reading.{Reading as Folded};
 ghost use Rattle.rr_folders.specs.Crashed.{AreLeftBy};
-ghost use Rattle.rr_folders.specs.Agreement.{fits_at, all_fit_from, clashes_between, clashes_with, clashes_from, Alike, AllAlike, Agree, HaveOneList};
+ghost use Rattle.rr_folders.specs.Agreement.{fits_at, all_fit_from, clashes_between, clashes_with, clashes_from, Alike, AllAlike, Agree, HaveOneList, IsBeginningOf, longest_decided};
 
 use crate::difference::{Difference, first_difference};
 use crate::verify_folder::Reading;
@@ -29,6 +36,14 @@ pub struct Verdict {
     /// For each two that decide an instance differently the lowest such instance.
     pub clashes: Vec<Clash>,
 }
+
+/// A law on folders as crashes leave those of a run's nodes. They agree. The longest list that they have decided, which an
+/// export takes, is a beginning of the decided list. It has each reply that one of their nodes has acknowledged.
+pub fn crashed_folders_agree()
+    ensures agree { (run : List Step) (readings : List Folded) → IsRun (length readings) run → AreLeftBy run readings → Agree readings }
+    ensures begins { (run : List Step) (readings : List Folded) (list : List Decided) → IsRun (length readings) run → AreLeftBy run readings → IsDecidedList (length readings) (end_of run).wire list → IsBeginningOf list (longest_decided readings) }
+    ensures knows { (run : List Step) (readings : List Folded) (p : ℕ) (q : RequestNo) (reply : Reply) → IsRun (length readings) run → AreLeftBy run readings → p < length readings → Contains (end_of run).trace (Acknowledged p q reply) → reply_of (longest_decided readings) q ≡ Some reply }
+{}
 
 // Whether what was read at a place fits it among so many.
 fn fits_at(nodes: usize, place: usize, reading: &Reading) -> bool
