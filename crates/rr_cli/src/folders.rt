@@ -5,7 +5,7 @@ ghost use Rattle.std.specs.List.{AllByRecursion};
 ghost use Rattle.rr_cli.specs.Clusters.{IsRead, AreRead};
 
 use crate::folder_faults::print_folder_fault;
-use rr_disk::FileDisk;
+use rr_folders::{Closed, Lockable, Shares, read_only_disk, share_cluster};
 use rr_types::{MAX_NODES, Refusal};
 use rr_verify::{Reading, read_disk};
 use std::alloc::AllocError;
@@ -21,7 +21,7 @@ where
     ensures { IfOk result IsRead }
 {
     let folder = format!(in rt.alloc(); "{dir}/{place}")?;
-    match FileDisk::open_read_only(rt, folder.as_str()) {
+    match read_only_disk(rt, folder.as_str()) {
         Ok(disk) => {
             let mut disk = disk;
             read_disk(rt.alloc(), &mut disk)
@@ -31,8 +31,12 @@ where
     }
 }
 
-// What is read of the folders of all places that a cluster may have.
-fn read_places<R: Files + AllocGlobal>(rt: &R, dir: &str) -> Result<Vec<Reading>, AllocError>
+// What is read of the folders of all places that a cluster may have, while these locks are held.
+fn read_places<R: Files + AllocGlobal>(
+    rt: &R,
+    _shares: &Shares<R::File>,
+    dir: &str,
+) -> Result<Vec<Reading>, AllocError>
 where
     R::File: FileExt,
     ensures each { IfOk result (λ v. AllByRecursion IsRead v.items) }
@@ -58,19 +62,21 @@ fn folder_count(readings: &[Reading]) -> u8
 }
 
 /// What is read of the folders DIR/0, DIR/1 and so on of a cluster. There are as many as the first of them says that holds
-/// facts; if none does, only DIR/0 counts.
+/// facts; if none does, only DIR/0 counts. No program runs the cluster meanwhile.
 ///
 /// # Errors
-/// Memory alone.
+/// `InUse`, where one does. `OutOfMemory`.
 pub(crate) fn read_folders<R: Files + AllocGlobal>(
     rt: &R,
     dir: &str,
-) -> Result<Vec<Reading>, AllocError>
+) -> Result<Vec<Reading>, Closed>
 where
-    R::File: FileExt,
+    R::File: FileExt + Lockable,
     ensures { IfOk result (λ v. AreRead v.items) }
 {
-    let mut readings = read_places(rt, dir)?;
+    let shares = share_cluster(rt, dir, MAX_NODES)?;
+    let mut readings = read_places(rt, &shares, dir)?;
+    drop(shares);
     let count = usize::from(folder_count(readings.as_slice()));
     readings.truncate(count);
     Ok(readings)

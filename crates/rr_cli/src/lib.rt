@@ -55,7 +55,7 @@ mod viewing;
 mod views;
 mod words;
 
-pub use folder_faults::print_folder_fault;
+pub use folder_faults::{end_by_unlocked, print_folder_fault};
 pub use migrate::migrate_disk;
 pub use program::{execute, run};
 pub use random_schedule::{nodes_of, number_in};

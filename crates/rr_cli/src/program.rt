@@ -25,6 +25,7 @@ use crate::sweep::{end_without_seed, sweep_by_word, sweep_file};
 use crate::verification::verify_by_word;
 use crate::words::end_by_words;
 use rr_files::FileReader;
+use rr_folders::Lockable;
 use rr_sim::report_on;
 use rr_stream::{Sink, Source, read_all};
 use rr_words::{Task, read_words};
@@ -114,7 +115,7 @@ pub fn execute<R: Files + AllocGlobal, S: AsStr, F: FileReader, I: Source, O: Si
     err: &mut E,
 ) -> u8
 where
-    R::File: FileExt,
+    R::File: FileExt + Lockable,
     ensures ends { EndsBy (faults_of (map S.text words.now)) (task_of (map S.text words.now))
         (record { input = I.reading input.old; files = F.held files.old }) (record { input = I.reading input.new; files = F.held files.new }) result (O.printing out.old) (O.printing out.new) }
     ensures quiet { result ≡ 0 → Keeps (E.contents err.old) (E.contents err.new) }
@@ -160,7 +161,7 @@ pub fn run<R: Files + AllocGlobal, F: FileReader, I: Source, O: Sink, E: Write>(
     err: &mut E,
 ) -> u8
 where
-    R::File: FileExt,
+    R::File: FileExt + Lockable,
     ensures ends { IfOk words (λ words. EndsBy (faults_of (map string_bytes words.items)) (task_of (map string_bytes words.items))
         (record { input = I.reading input.old; files = F.held files.old }) (record { input = I.reading input.new; files = F.held files.new }) result (O.printing out.old) (O.printing out.new)) }
     ensures memory { IfErr words (λ error. error_kind error ≡ ErrorKind.OutOfMemory → result ≡ 6) }

@@ -5,9 +5,11 @@ ghost use Rattle.std.specs.Io.KnownBytes.{Keeps};
 ghost use Rattle.rr_cli.specs.Ends.{EndsOnVerification, EndsOnDir};
 ghost use Rattle.rr_cli.specs.Clusters.{AreRead, form_in, unlike};
 
+use crate::folder_faults::end_by_unlocked;
 use crate::folders::{end_without_dir, print_folder_faults, read_folders};
 use crate::refusals::end_by_refusal;
 use crate::streams::end_by_text;
+use rr_folders::Lockable;
 use rr_stream::Sink;
 use rr_types::Refusal;
 use rr_verify::{Reading, Verdict, verdict_text, verify};
@@ -76,7 +78,7 @@ pub(crate) fn verify_by_word<R: Files + AllocGlobal, O: Sink, E: Write>(
     err: &mut E,
 ) -> u8
 where
-    R::File: FileExt,
+    R::File: FileExt + Lockable,
     ensures ends { EndsOnDir (EndsOnVerification form) (option_map (λ s. s.now) dir.entry) result (O.printing out.old) (O.printing out.new) }
     ensures quiet { result ≡ 0 → Keeps (E.contents err.old) (E.contents err.new) }
 {
@@ -85,6 +87,6 @@ where
     };
     match read_folders(rt, dir) {
         Ok(readings) => verify_readings(rt, dir, form, readings.as_slice(), out, err),
-        Err(_) => end_by_refusal(err, &Refusal::OutOfMemory),
+        Err(closed) => end_by_unlocked(err, &closed),
     }
 }

@@ -9,6 +9,7 @@ use crate::program::execute;
 use crate::views::show_view;
 use crate::words::end_by_words;
 use rr_files::FileReader;
+use rr_folders::Lockable;
 use rr_stream::{Sink, Source};
 use rr_words::{Task, read_words};
 use std::convert::AsStr;
@@ -34,7 +35,7 @@ pub fn execute_with_views<
     E: Write,
 >(rt: &R, words: &[S], files: &mut F, input: &mut I, out: &mut O, err: &mut E) -> u8
 where
-    R::File: FileExt,
+    R::File: FileExt + Lockable,
     ensures ends { EndsWithViews (faults_of (map S.text words.now)) (task_of (map S.text words.now))
         (record { input = I.reading input.old; files = F.held files.old }) (record { input = I.reading input.new; files = F.held files.new }) result (O.printing out.old) (O.printing out.new) }
     ensures quiet { result ≡ 0 → Keeps (E.contents err.old) (E.contents err.new) }

@@ -1,14 +1,19 @@
 //! The folders of a cluster, found and opened.
 
-ghost use Rattle.std.specs.Prelude.{◌≡◌, length, IfOk};
+ghost use Rattle.std.specs.Prelude.{◌≡◌, ◌⊎◌, length, Contains, IfOk, IfErr};
+ghost use Rattle.rr_types.specs.declared.refusal.Refusal.TheVariants.{Device, OutOfMemory};
 
 use crate::closed::{Closed, done};
 use crate::forming::{are_formatted, begin, conclude, open_disks, take_on, tidy};
 use crate::lock::{Lockable, Locks};
-use crate::seen::{Seen, cluster_in, is_there, look_at};
+use crate::mark_file::FolderMark;
+use crate::marked::MarkedDisk;
+use crate::plain::see_requests;
+use crate::seen::{Seen, cluster_in, is_there, look_at, look_over};
+use crate::tip::Tip;
 use rr_cluster::{Cluster, Content, Verdict, judge};
 use rr_disk::{FileDisk, OpenedFile, make_folder};
-use rr_types::Nodes;
+use rr_types::{Nodes, Refusal};
 use std::fs;
 use std::fs::OpenFile;
 use std::io::{ErrorKind, Read, Seek, Write};
@@ -16,11 +21,18 @@ use std::marker::Model;
 use std::os::unix::fs::FileExt;
 use std::rt::Files;
 
+/// A disk of the two files in a node's folder, whose mark is the file `node` there.
+pub type NodeDisk<'x, F, R> = MarkedDisk<FileDisk<OpenedFile<F>>, FolderMark<'x, R>>;
+
 /// The folders of a cluster: DIR and those in it, locked while `locks` is there, and the disks in them, ascending.
 #[derive(Drop)]
-pub struct Folders<F> {
+pub struct Folders<
+    'x,
+    F: Read + Write + Seek + FileExt + OpenFile + Drop,
+    R: Files<File = F> + AllocGlobal,
+> {
     pub locks: Locks<F>,
-    pub disks: Vec<FileDisk<OpenedFile<F>>>,
+    pub disks: Vec<NodeDisk<'x, F, R>>,
 }
 
 /// What was found in the folder DIR, which is locked while this is there. Contracts see how many nodes it was looked through for.
@@ -28,6 +40,8 @@ pub struct Folders<F> {
 pub struct Survey<F> {
     pub(crate) locks: Locks<F>,
     pub(crate) seen: Vec<Seen>,
+    // what is known of each folder's active area
+    pub(crate) known: Vec<Option<Tip>>,
     pub(crate) has_cluster_file: bool,
     // where the path of the first folder ends that was made for DIR
     pub(crate) made: Option<usize>,
@@ -52,6 +66,7 @@ impl<F> Survey<F> {
         let Survey {
             locks,
             seen: _,
+            known: _,
             has_cluster_file: _,
             made: _,
             verdict: _,
@@ -110,22 +125,26 @@ fn look_in<
 {
     let mut locks = Locks::on(rt, dir)?;
     let mut seen = Vec::new(rt.alloc());
+    let mut known = Vec::new(rt.alloc());
     let mut found = Vec::new(rt.alloc());
     for node in 0..nodes.count() {
         let path = format!(in rt.alloc(); "{dir}/{node}")?;
         if is_there(rt, path.as_str())? {
             locks.add(rt, path.as_str())?;
         }
-        let look = look_at(rt, &locks, path.as_str())?;
+        let (look, tip) = look_at(rt, &locks, path.as_str())?;
         found.push(look.found)?;
         seen.push(look)?;
+        known.push(tip)?;
     }
     let path = format!(in rt.alloc(); "{dir}/cluster")?;
-    let cluster = cluster_in(rt, &locks)?;
+    let cluster = cluster_in(rt, locks.dir())?;
+    see_requests(rt, dir)?;
     let verdict = judge(nodes, cluster.as_ref(), found.as_slice());
     Ok(Survey {
         locks,
         seen,
+        known,
         has_cluster_file: is_there(rt, path.as_str())?,
         made,
         verdict,
@@ -151,6 +170,67 @@ pub fn survey_folders<
         remove_made(rt, dir, made);
     }
     looked
+}
+
+/// What would be done with the folders of a cluster in the folder DIR. Nothing is locked, made or written, so another program may change
+/// them meanwhile.
+///
+/// # Errors
+/// `Failed`, `OutOfMemory`.
+pub fn judge_folders<R: Files + AllocGlobal>(
+    rt: &R,
+    nodes: Nodes,
+    dir: &str,
+) -> Result<Verdict, Closed> {
+    let mut found = Vec::new(rt.alloc());
+    for node in 0..nodes.count() {
+        let path = format!(in rt.alloc(); "{dir}/{node}")?;
+        let (look, _) = look_over(rt, path.as_str())?;
+        found.push(look.found)?;
+    }
+    let cluster = cluster_in(rt, dir)?;
+    Ok(judge(nodes, cluster.as_ref(), found.as_slice()))
+}
+
+// The disk in a folder that has a mark. What is written there goes on in the mark. None: it has none.
+fn open_marked<
+    'x,
+    F: Read + Write + Seek + FileExt + OpenFile + Drop,
+    R: Files<File = F> + AllocGlobal,
+>(rt: &'x R, folder: &str) -> Result<Option<NodeDisk<'x, F, R>>, Closed> {
+    let (seen, known) = look_over(rt, folder)?;
+    let Some(mark) = seen.found.mark else {
+        return Ok(None);
+    };
+    let keeper = FolderMark::new(rt, folder, mark.identity, mark.node)?;
+    match FileDisk::open(rt, folder, false) {
+        Ok(disk) => Ok(Some(MarkedDisk::new(disk, keeper, mark.course, known))),
+        Err(refusal) => Err(Closed::Unopened(mark.node, refusal)),
+    }
+}
+
+impl<F: Read + Write + Seek + FileExt + OpenFile + Drop> Locks<F> {
+    /// The disk in a folder that is locked, opened to read and write, where the folder has a mark: what is written there goes on in
+    /// the mark. None: it has none.
+    ///
+    /// # Errors
+    /// `OutOfMemory`; `Device` where a file is missing, isn't plain, or can't be opened so.
+    pub fn marked_disk_in<'x, R: Files<File = F> + AllocGlobal>(
+        &self,
+        rt: &'x R,
+        folder: &str,
+    ) -> Result<Option<NodeDisk<'x, F, R>>, Refusal>
+        requires locked { Contains self.now folder.now }
+        ensures cause { IfErr result (λ e. (e ≡ OutOfMemory) ⊎ (e ≡ Device)) }
+    {
+        match open_marked(rt, folder) {
+            Ok(disk) => Ok(disk),
+            Err(Closed::OutOfMemory | Closed::Unopened(_, Refusal::OutOfMemory)) => {
+                Err(Refusal::OutOfMemory)
+            }
+            Err(_) => Err(Refusal::Device),
+        }
+    }
 }
 
 // The cluster whose disks may be opened, by what was found. What has to be written before is.
@@ -181,9 +261,10 @@ fn sync_names<R: Files + AllocGlobal>(rt: &R, dir: &str) -> Result<(), Closed> {
 /// `Refused`, where the folders may not be opened: nothing is written then. `Unopened`, `InUse`, `Failed` or `OutOfMemory`: what was
 /// made is taken away, unless the cluster's file may say already that its nodes have been formatted.
 pub fn enter<
+    'x,
     F: Read + Write + Seek + FileExt + OpenFile + Drop + Lockable,
     R: Files<File = F> + AllocGlobal,
->(rt: &R, nodes: Nodes, dir: &str, survey: Survey<F>) -> Result<Folders<F>, Closed>
+>(rt: &'x R, nodes: Nodes, dir: &str, survey: Survey<F>) -> Result<Folders<'x, F, R>, Closed>
     ensures { IfOk result (λ f. length f.disks.items ≡ nodes) }
 {
     let mut survey = survey;
@@ -210,9 +291,10 @@ pub fn enter<
 /// # Errors
 /// Those of `survey_folders` and of `enter`.
 pub fn open_folders<
+    'x,
     F: Read + Write + Seek + FileExt + OpenFile + Drop + Lockable,
     R: Files<File = F> + AllocGlobal,
->(rt: &R, nodes: Nodes, dir: &str) -> Result<Folders<F>, Closed>
+>(rt: &'x R, nodes: Nodes, dir: &str) -> Result<Folders<'x, F, R>, Closed>
     ensures { IfOk result (λ f. length f.disks.items ≡ nodes) }
 {
     let survey = survey_folders(rt, nodes, dir)?;

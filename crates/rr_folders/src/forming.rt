@@ -4,10 +4,14 @@
 ghost use Rattle.std.specs.Prelude.{◌≡◌, ◌<◌, length, IfOk};
 
 use crate::closed::{Closed, done};
-use crate::folder::{Survey, remove_made};
+use crate::folder::{NodeDisk, Survey, remove_made};
 use crate::lock::{Lockable, Locks};
-use crate::seen::Seen;
-use rr_cluster::{AreaFront, Cluster, Identity, Mark};
+use crate::mark_file::FolderMark;
+use crate::marked::MarkedDisk;
+use crate::plain::make_fresh;
+use crate::seen::{Seen, course_of, is_there};
+use crate::tip::Tip;
+use rr_cluster::{AreaFront, Cluster, Course, Identity, Mark};
 use rr_disk::{FileDisk, OpenedFile, make_folder};
 use rr_journal::Journal;
 use rr_types::{NodeId, NodeSet, Nodes, Refusal};
@@ -31,9 +35,13 @@ pub(crate) fn draw_identity<R: Files + AllocGlobal>(rt: &R) -> Result<Identity, 
     })
 }
 
-// Writes a text to a new file, and syncs it. Where that fails there is no such file.
-fn write_fresh<R: Files + AllocGlobal>(rt: &R, fresh: &str, text: &[u8]) -> Result<(), Closed> {
-    let mut file = done(rt, fresh, "making the file", fs::create(rt, fresh))?;
+/// Writes a text to a new file, and syncs it. Where that fails there is no such file.
+pub(crate) fn write_fresh<R: Files + AllocGlobal>(
+    rt: &R,
+    fresh: &str,
+    text: &[u8],
+) -> Result<(), Closed> {
+    let mut file = done(rt, fresh, "making the file", make_fresh(rt, fresh))?;
     let written = match done(rt, fresh, "writing", file.write_all(text)) {
         Ok(()) => done(rt, fresh, "syncing", file.sync_all()),
         Err(closed) => Err(closed),
@@ -53,8 +61,8 @@ fn rename_fresh<R: Files + AllocGlobal>(rt: &R, fresh: &str, path: &str) -> Resu
     renamed
 }
 
-// Puts a file that is synced in place of another one, and makes that last.
-fn put_in_place<R: Files + AllocGlobal>(
+/// Puts a file that is synced in place of another one, and makes that last.
+pub(crate) fn put_in_place<R: Files + AllocGlobal>(
     rt: &R,
     dir: &str,
     fresh: &str,
@@ -87,7 +95,13 @@ fn write_mark<R: Files + AllocGlobal>(
     let folder = format!(in rt.alloc(); "{dir}/{index}")?;
     let path = format!(in rt.alloc(); "{dir}/{index}/node")?;
     let fresh = format!(in rt.alloc(); "{dir}/{index}/node.new")?;
-    let text = Mark { identity, node }.text(rt.alloc())?;
+    let course = None;
+    let text = Mark {
+        identity,
+        node,
+        course,
+    }
+    .text(rt.alloc())?;
     write_fresh(rt, fresh.as_str(), text.as_slice())?;
     put_in_place(rt, folder.as_str(), fresh.as_str(), path.as_str())
 }
@@ -137,7 +151,9 @@ pub fn try_folder<R: Files + AllocGlobal>(rt: &R, folder: &str) -> Result<(), Cl
             options.open(rt, path.as_str()),
         )?;
     }
-    let probe = format!(in rt.alloc(); "{folder}/probe")?;
+    // The number is drawn, so that no file of anybody's has this name.
+    let drawn = draw_identity(rt)?.first;
+    let probe = format!(in rt.alloc(); "{folder}/probe-{drawn}")?;
     write_fresh(rt, probe.as_str(), &[0u8; 4096])?;
     let _ = fs::remove_file(rt, probe.as_str());
     Ok(())
@@ -185,18 +201,32 @@ fn form_folder<
     write_mark(rt, dir, node, identity, seen)
 }
 
+// How far a node's mark says that its disk came, and what is known of that.
+fn course_in<F>(survey: &mut Survey<F>, index: u8) -> (Option<Course>, Option<Tip>) {
+    let course = match survey.seen.get(usize::from(index)) {
+        Some(seen) => course_of(seen.found.mark),
+        None => None,
+    };
+    let known = match survey.known.get_mut(usize::from(index)) {
+        Some(known) => known.take(),
+        None => None,
+    };
+    (course, known)
+}
+
 // Opens the disk of a node. One that hasn't been formatted is.
 fn open_node<
+    'x,
     F: Read + Write + Seek + FileExt + OpenFile + Drop + Lockable,
     R: Files<File = F> + AllocGlobal,
 >(
-    rt: &R,
+    rt: &'x R,
     nodes: Nodes,
     dir: &str,
     cluster: &Cluster,
     node: NodeId,
     survey: &mut Survey<F>,
-) -> Result<FileDisk<OpenedFile<F>>, Closed>
+) -> Result<NodeDisk<'x, F, R>, Closed>
     requires { node < nodes }
 {
     let index = node.index();
@@ -208,24 +238,32 @@ fn open_node<
             form_folder(rt, dir, cluster.identity, node, &seen, &mut survey.locks)?;
         }
     }
+    let keeper = FolderMark::new(rt, folder.as_str(), cluster.identity, node)?;
     match FileDisk::open(rt, folder.as_str(), true) {
-        Ok(disk) if is_formatted => Ok(disk),
-        Ok(disk) => formatted(rt, folder.as_str(), nodes, node, disk),
+        Ok(disk) if is_formatted => {
+            let (course, known) = course_in(survey, index);
+            Ok(MarkedDisk::new(disk, keeper, course, known))
+        }
+        Ok(disk) => {
+            let disk = formatted(rt, folder.as_str(), nodes, node, disk)?;
+            Ok(MarkedDisk::new(disk, keeper, None, None))
+        }
         Err(refusal) => Err(unopened(rt, folder.as_str(), node, refusal)),
     }
 }
 
 /// Opens the disks of a cluster's nodes, ascending. Those that haven't been formatted are.
 pub(crate) fn open_disks<
+    'x,
     F: Read + Write + Seek + FileExt + OpenFile + Drop + Lockable,
     R: Files<File = F> + AllocGlobal,
 >(
-    rt: &R,
+    rt: &'x R,
     nodes: Nodes,
     dir: &str,
     cluster: &Cluster,
     survey: &mut Survey<F>,
-) -> Result<Vec<FileDisk<OpenedFile<F>>>, Closed>
+) -> Result<Vec<NodeDisk<'x, F, R>>, Closed>
     ensures { IfOk result (λ v. length v.items ≡ nodes) }
 {
     let mut disks = Vec::new(rt.alloc());
@@ -255,13 +293,13 @@ fn mark_nodes<F, R: Files<File = F> + AllocGlobal>(
     Ok(())
 }
 
-// Takes away what was made in a node's folder, and the folder if it was made.
+// Takes away what was made in a node's folder, and the folder if it was made. It tells whether a mark is left that was made.
 fn tidy_node<R: Files + AllocGlobal>(
     rt: &R,
     dir: &str,
     index: usize,
     seen: &Seen,
-) -> Result<(), Closed> {
+) -> Result<bool, Closed> {
     let missing = [
         ("a0", matches!(seen.first, AreaFront::Missing)),
         ("a1", matches!(seen.second, AreaFront::Missing)),
@@ -277,19 +315,23 @@ fn tidy_node<R: Files + AllocGlobal>(
         let path = format!(in rt.alloc(); "{dir}/{index}")?;
         let _ = fs::remove_dir(rt, path.as_str());
     }
-    Ok(())
+    let path = format!(in rt.alloc(); "{dir}/{index}/node")?;
+    Ok(!seen.has_mark_file && is_there(rt, path.as_str())?)
 }
 
-/// Takes away all that was made since the survey.
+/// Takes away all that was made since the survey. The cluster's file stays if a mark does, as no cluster begins over marks.
 pub(crate) fn tidy<F, R: Files<File = F> + AllocGlobal>(
     rt: &R,
     dir: &str,
     survey: &Survey<F>,
 ) -> Result<(), Closed> {
+    let mut is_marked = false;
     for (index, seen) in survey.seen.iter().enumerate() {
-        tidy_node(rt, dir, index, seen)?;
+        if tidy_node(rt, dir, index, seen)? {
+            is_marked = true;
+        }
     }
-    if !survey.has_cluster_file {
+    if !survey.has_cluster_file && !is_marked {
         let path = format!(in rt.alloc(); "{dir}/cluster")?;
         let _ = fs::remove_file(rt, path.as_str());
     }

@@ -1,6 +1,7 @@
 //! The folders of a cluster, as a program opens them: node P's is `DIR/P`, and `DIR/cluster` says which cluster they are.
 //! `open_folders` locks them, judges what it finds as `rr_cluster` says, and writes what is missing where a cluster begins.
 //! `survey_folders` and `enter` are its two halves. `Locks` holds their locks, and reserves request numbers in a locked folder.
+//! `lock_node` locks a single node's folder. `Shares` are the locks of those who only read, which keep off whoever runs nodes.
 //!
 //! # Example
 //!
@@ -22,13 +23,22 @@ mod closed;
 mod folder;
 mod forming;
 mod lock;
+mod mark_file;
+mod marked;
 mod number_file;
+mod plain;
+mod reading;
 mod requests;
 mod seen;
+mod tip;
 
-pub use closed::Closed;
-pub use folder::{Folders, Survey, enter, open_folders, survey_folders};
+pub use closed::{Closed, print_closed};
+pub use folder::{Folders, NodeDisk, Survey, enter, judge_folders, open_folders, survey_folders};
 pub use forming::try_folder;
 pub use lock::{Lockable, Locks};
+pub use mark_file::{FolderMark, MarkKeeper};
+pub use marked::MarkedDisk;
 pub use number_file::{NumberFile, reserve};
+pub use plain::{read_only_disk, see_plain};
+pub use reading::{Shares, lock_node, share_cluster, share_node};
 pub use requests::{Block, greatest_in, reserve_in};

@@ -8,16 +8,13 @@ ghost use Rattle.rr_run.specs.Endings.{refusal_of};
 use crate::ending::Ended;
 use crate::post::Post;
 use crate::teller::Teller;
-use rr_disk::{FileDisk, OpenedFile};
+use rr_disk::Disk;
 use rr_locked::Open;
 use rr_shell::Trouble;
 use rr_stream::Sink;
 use rr_talk::{Asked, Prompting, Stop, talk};
 use rr_threads::run_switched;
 use rr_types::{Nodes, Refusal};
-use std::fs::OpenFile;
-use std::io::{Read, Seek, Write};
-use std::os::unix::fs::FileExt;
 use std::sync::Wait;
 use std::thread;
 use std::thread::{Scope, Threads};
@@ -69,16 +66,15 @@ fn end_behind<R: Wait, F: FnOnce() -> Result<(), Refusal>>(rt: &R, post: &Post, 
 }
 
 // Runs the nodes until nothing is asked any more, or the run fails.
-fn run_nodes<
-    F: Read + Write + Seek + FileExt + OpenFile + Drop + Send,
-    R: AllocGlobal + Threads + Wait + Clock + Sync,
->(
+fn run_nodes<D: Disk + Drop + Send, R: AllocGlobal + Threads + Wait + Clock + Sync>(
     rt: &R,
     nodes: Nodes,
-    disks: Vec<FileDisk<OpenedFile<F>>>,
+    disks: Vec<D>,
     clients: Vec<Vec<Teller<'_>>>,
     post: &Post,
-) -> Ended {
+) -> Ended
+    requires alike { (one other : D) → D.tells one → D.tells other }
+{
     let switches = &post.switches;
     end_behind(rt, post, || {
         run_switched(rt, rt.alloc(), nodes, disks, clients, &Open, switches)
@@ -100,42 +96,38 @@ fn end_unless<R: Wait>(rt: &R, post: &Post, is_started: bool) -> Option<Ended>
 fn start_nodes<
     's,
     E,
-    F: Read + Write + Seek + FileExt + OpenFile + Drop + Send + 's,
+    D: Disk + Drop + Send + 's,
     R: AllocGlobal + Threads + Wait + Clock + Sync + 's,
 >(
     scope: &Scope<'s, E>,
     rt: &'s R,
     nodes: Nodes,
-    disks: Vec<FileDisk<OpenedFile<F>>>,
+    disks: Vec<D>,
     clients: Vec<Vec<Teller<'s>>>,
     post: &'s Post,
-) {
+)
+    requires alike { (one other : D) → D.tells one → D.tells other }
+{
     let started = scope.spawn(move || run_nodes(rt, nodes, disks, clients, post));
     let _ended = end_unless(rt, post, started.is_ok());
 }
 
 // Does some work while the nodes run. Then they come to their end.
 fn run_beside<
-    F: Read + Write + Seek + FileExt + OpenFile + Drop + Send,
+    D: Disk + Drop + Send,
     R: AllocGlobal + Threads + Wait + Clock + Sync,
     T: Work<Output = A> + Drop,
     A,
->(
-    rt: &R,
-    nodes: Nodes,
-    disks: Vec<FileDisk<OpenedFile<F>>>,
-    clients: Vec<Vec<Teller<'_>>>,
-    post: &Post,
-    work: T,
-) -> A
-    requires { T.can_run work }
+>(rt: &R, nodes: Nodes, disks: Vec<D>, clients: Vec<Vec<Teller<'_>>>, post: &Post, work: T) -> A
+    requires alike { (one other : D) → D.tells one → D.tells other }
+    requires runs { T.can_run work }
     ensures { T.gives work result }
 {
     thread::scope(
         thread::scope_env(),
         rt,
         move |scope|
-            requires { IsSend F.row × IsSync R.row × T.can_run work }
+            requires { IsSend D.row × IsSync R.row × ((one other : D) → D.tells one → D.tells other) × T.can_run work }
             ensures { T.gives work result }
         {
             start_nodes(scope, rt, nodes, disks, clients, post);
@@ -153,19 +145,20 @@ fn take_back<T>(lent: &mut T)
 
 // Calls a closure while the nodes run.
 fn call_beside<
-    F: Read + Write + Seek + FileExt + OpenFile + Drop + Send,
+    D: Disk + Drop + Send,
     R: AllocGlobal + Threads + Wait + Clock + Sync,
     C: FnMut() -> A,
     A,
 >(
     rt: &R,
     nodes: Nodes,
-    disks: Vec<FileDisk<OpenedFile<F>>>,
+    disks: Vec<D>,
     clients: Vec<Vec<Teller<'_>>>,
     post: &Post,
     work: &mut C,
 ) -> A
-    requires { C.pre work.old }
+    requires alike { (one other : D) → D.tells one → D.tells other }
+    requires callable { C.pre work.old }
     ensures { C.step work.old result work.new }
 {
     let (work, given) = run_beside(rt, nodes, disks, clients, post, Lent { work });
@@ -175,7 +168,7 @@ fn call_beside<
 
 /// Talks while the nodes run.
 pub(crate) fn talk_beside<
-    F: Read + Write + Seek + FileExt + OpenFile + Drop + Send,
+    D: Disk + Drop + Send,
     R: AllocGlobal + Threads + Wait + Clock + Sync,
     I: Prompting,
     O: Sink + Send,
@@ -183,7 +176,7 @@ pub(crate) fn talk_beside<
 >(
     rt: &R,
     nodes: Nodes,
-    disks: Vec<FileDisk<OpenedFile<F>>>,
+    disks: Vec<D>,
     clients: Vec<Vec<Teller<'_>>>,
     post: &Post,
     json: bool,
@@ -192,6 +185,7 @@ pub(crate) fn talk_beside<
     input: &mut I,
     out: &mut O,
 ) -> Result<Option<Trouble>, Stop>
+    requires alike { (one other : D) → D.tells one → D.tells other }
     ensures { Talks A.did json strict nodes (I.reading input.old) (I.reading input.new) (O.printing out.old) (O.printing out.new) result }
 {
     let alloc = rt.alloc();

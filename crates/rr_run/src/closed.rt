@@ -1,11 +1,11 @@
 //! The lines that tell why the folders of a run aren't opened.
 
 ghost use Rattle.rr_image.specs.Image.{found};
-ghost use Rattle.rr_run.specs.Closings.{IsRefusalOf, IsClosedBy, IsRefusedFor};
+ghost use Rattle.rr_run.specs.Closings.{may_be_damaged, IsRefusalOf, IsClosedBy, IsRefusedFor};
 
 use rr_cli::{end_by_refusal, print_folder_fault};
 use rr_cluster::Fault;
-use rr_folders::Closed;
+use rr_folders::{Closed, print_closed};
 use rr_image::read_image;
 use rr_types::{NodeId, Nodes, Refusal};
 use std::alloc::Global;
@@ -29,9 +29,9 @@ where
     let refusal = refusal_of(rt, dir, nodes, closed);
     let ending = end_by_refusal(err, &refusal);
     let _ = match closed {
-        Closed::OutOfMemory => Ok(()),
-        Closed::InUse(path) => writeln!(err, "{path}: another program has locked it"),
-        Closed::Failed { path, call, error } => writeln!(err, "{path}: {call}: {error}"),
+        Closed::OutOfMemory | Closed::InUse(_) | Closed::Failed { .. } => {
+            print_closed(err, closed)
+        }
         Closed::Unopened(node, _) => print_unopened(rt, err, dir, *node, &refusal),
         Closed::Refused(node, fault) => print_refused(rt, err, dir, nodes, *node, fault, &refusal),
     };
@@ -46,10 +46,21 @@ fn refusal_of<R: Files + AllocGlobal>(rt: &R, dir: &str, nodes: Nodes, closed: &
         Closed::OutOfMemory => Refusal::OutOfMemory,
         Closed::InUse(_) | Closed::Failed { .. } => Refusal::Device,
         Closed::Unopened(_, refusal) => *refusal,
-        Closed::Refused(node, Fault::Cut | Fault::OtherNode(_) | Fault::OtherNodes(_)) => {
+        Closed::Refused(node, fault) if may_be_damaged(fault) => {
             opening_refusal(rt, dir, nodes, *node)
         }
         Closed::Refused(..) => Refusal::Device,
+    }
+}
+
+// Whether an opening of the disk may find it too.
+fn may_be_damaged(fault: &Fault) -> bool
+    ensures { result ≡ may_be_damaged fault.now }
+{
+    match fault {
+        Fault::Cut | Fault::OtherNode(_) | Fault::OtherNodes(_) => true,
+        Fault::Older | Fault::Shorter | Fault::Altered => true,
+        _ => false,
     }
 }
 
@@ -111,10 +122,23 @@ fn print_refused<R: Files + AllocGlobal, W: Write>(
     match fault {
         Fault::Missing => write!(err, "{dir}/{path}: the folder is gone, and ")?,
         Fault::Blank => write!(err, "{dir}/{path}: its disk is blank, and ")?,
-        Fault::Cut if !matches!(refusal, Refusal::Device) => {
+        Fault::Cut | Fault::Older | Fault::Shorter | Fault::Altered
+            if !matches!(refusal, Refusal::Device) => {
             return print_unopened(rt, err, dir, node, refusal);
         }
         Fault::Cut => write!(err, "{dir}/{path}: a file of its disk is gone or cut, and ")?,
+        Fault::Older => write!(
+            err,
+            "{dir}/{path}: the newest area of its disk isn't the one that its file node names, and "
+        )?,
+        Fault::Shorter => write!(
+            err,
+            "{dir}/{path}: the newest area of its disk is shorter than its file node says, and "
+        )?,
+        Fault::Altered => write!(
+            err,
+            "{dir}/{path}: the newest area of its disk has other bytes than its file node says, and "
+        )?,
         Fault::OtherNode(_) | Fault::OtherNodes(_) | Fault::OtherCluster | Fault::Unmarked => {
             return print_other(err, dir, nodes, node, fault);
         }

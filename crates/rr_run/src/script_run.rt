@@ -16,10 +16,12 @@ use crate::closed::end_by_closed;
 use crate::reused::tell_reused;
 use crate::ticking::tick_by;
 use rr_cli::{Form, end_by_refusal, end_by_stream, end_by_text, nodes_of, print_folder_fault};
-use rr_disk::{FileDisk, OpenedFile};
+use rr_disk::{Disk, FileDisk};
 use rr_explain::print_script_fault;
 use rr_files::FileReader;
-use rr_folders::{Closed, Folders, Lockable, Locks, Survey, enter, survey_folders, try_folder};
+use rr_folders::{
+    Closed, Folders, Lockable, Locks, Survey, enter, read_only_disk, survey_folders, try_folder,
+};
 use rr_image::inspect;
 use rr_locked::Open;
 use rr_script::{Answers, Script};
@@ -106,7 +108,7 @@ fn read_folder<R: Files + AllocGlobal>(rt: &R, folder: &str) -> Result<(), Refus
 where
     R::File: FileExt,
 {
-    let mut disk = FileDisk::open_read_only(rt, folder)?;
+    let mut disk = read_only_disk(rt, folder)?;
     let _ = inspect(rt.alloc(), &mut disk)?;
     Ok(())
 }
@@ -168,16 +170,18 @@ fn end_by_tape<R: Files + AllocGlobal, O: Sink, E: Write>(
 
 // Runs a script over the disks of folders, whose locks are held meanwhile.
 fn run_locked<
-    F: Read + Write + Seek + FileExt + OpenFile + Drop + Send,
+    F: Read + Write + Seek + FileExt + OpenFile + Drop,
+    D: Disk + Drop + Send,
     R: AllocGlobal + Threads + Wait + Clock + Sync,
 >(
     rt: &R,
     _locks: &Locks<F>,
-    disks: Vec<FileDisk<OpenedFile<F>>>,
+    disks: Vec<D>,
     script: &Script,
     recorder: Option<&Recorder>,
     tick: Duration,
 ) -> Result<Ran, Refusal>
+    requires alike { (one other : D) → D.tells one → D.tells other }
     ensures { IfOk result (λ ran. are_reused script.now.lines ran.reused.items ≡ true) }
 {
     run_script_told(rt, rt.alloc(), disks, script, &Open, recorder, tick)

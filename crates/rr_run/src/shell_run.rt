@@ -83,7 +83,7 @@ fn shell_in<
     tick: Duration,
     json: bool,
     strict: bool,
-    folders: Folders<F>,
+    folders: Folders<'_, F, R>,
     input: &mut I,
     out: &mut O,
     err: &mut E,

@@ -1,0 +1,84 @@
+//! The file that marks a node's folder.
+
+ghost use Rattle.std.specs.Prelude.{is_ok, Bool};
+
+use crate::closed::Closed;
+use crate::forming::{put_in_place, write_fresh};
+use rr_cluster::{Course, Identity, Mark};
+use rr_types::{NodeId, Refusal};
+use std::alloc::AllocError;
+use std::rt::Files;
+
+/// Where it is kept how far a node's disk came.
+pub trait MarkKeeper {
+    ghost use Rattle.rr_cluster.specs.declared.cluster.Course.{Course};
+
+    /// That a put of this course, which succeeded or not, may have brought it from one state to another.
+    ghost puts: { Self → Course → Bool → Self → Type 0 };
+
+    /// Puts a mark with this course in place of the one before, and makes it last. A crash leaves one of the two.
+    ///
+    /// # Errors
+    /// `OutOfMemory`, `Device`; it may have been put all the same.
+    fn put(&mut self, course: Course) -> Result<(), Refusal>
+        ensures { puts self.old course (is_ok result) self.new };
+}
+
+/// The file `node` of a node's folder. No contract knows what it holds.
+#[derive(Drop)]
+pub struct FolderMark<'x, R: Files> {
+    rt: &'x R,
+    folder: String,
+    path: String,
+    fresh: String,
+    identity: Identity,
+    node: NodeId,
+}
+
+impl<'x, R: Files + AllocGlobal> FolderMark<'x, R> {
+    /// That of the folder of a node of this cluster.
+    pub(crate) fn new(
+        rt: &'x R,
+        folder: &str,
+        identity: Identity,
+        node: NodeId,
+    ) -> Result<FolderMark<'x, R>, AllocError> {
+        Ok(FolderMark {
+            rt,
+            folder: format!(in rt.alloc(); "{folder}")?,
+            path: format!(in rt.alloc(); "{folder}/node")?,
+            fresh: format!(in rt.alloc(); "{folder}/node.new")?,
+            identity,
+            node,
+        })
+    }
+
+    // Writes the file.
+    fn write(&self, course: Course) -> Result<(), Closed> {
+        let mark = Mark {
+            identity: self.identity,
+            node: self.node,
+            course: Some(course),
+        };
+        let text = mark.text(self.rt.alloc())?;
+        write_fresh(self.rt, self.fresh.as_str(), text.as_slice())?;
+        put_in_place(
+            self.rt,
+            self.folder.as_str(),
+            self.fresh.as_str(),
+            self.path.as_str(),
+        )
+    }
+}
+
+impl<'x, R: Files + AllocGlobal> MarkKeeper for FolderMark<'x, R> {
+    ghost puts = { λ _ _ _ _. Unit {0} };
+
+    fn put(&mut self, course: Course) -> Result<(), Refusal> {
+        match self.write(course) {
+            Ok(()) => Ok(()),
+            Err(Closed::OutOfMemory) => Err(Refusal::OutOfMemory),
+            Err(_) => Err(Refusal::Device),
+        }
+    }
+}
