@@ -1,6 +1,6 @@
-//! What the first page of `rr_files` shows.
+//! What the first page of `rr_stream` shows.
 
-use rr_files::FileReader;
+use rr_stream::FileReader;
 use std::alloc::Global;
 use std::io;
 

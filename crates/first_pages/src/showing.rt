@@ -10,7 +10,6 @@ use crate::{
 };
 use rr_core::recover;
 use rr_disk::MemDisk;
-use rr_files::NamedText;
 use rr_journal::Journal;
 use rr_locked::Locked;
 use rr_node::Node;
@@ -18,7 +17,7 @@ use rr_parts::Heartbeat;
 use rr_places::Numbered;
 use rr_registry::Registry;
 use rr_step::State;
-use rr_stream::Counted;
+use rr_stream::{Counted, NamedText};
 use rr_text::Schedule;
 use rr_types::{
     Body, Command, Fact, Group, Instance, Message, Name, NodeId, Nodes, Op, Refusal, RequestNo,
@@ -253,7 +252,7 @@ pub fn show_program(rt: &HostRuntime) {
     let files = &mut NamedText::new("one.tape", b"nodes 1\n");
     print(
         rt,
-        "rr_files",
+        "rr_stream",
         files::length_of(alloc, files, "one.tape").ok(),
     );
     let heard = talk::next_line(alloc, &mut Counted::new(&b"look printer\nquit\n"[..]));

@@ -1,9 +1,8 @@
 //! A row's files, its input and its run.
 
 use crate::lines::{line_of, parts_of, plain};
-use rr_files::HostFiles;
 use rr_run::Lockable;
-use rr_stream::Counted;
+use rr_stream::{Counted, HostFiles};
 use std::alloc::{AllocError, Global};
 use std::fs::OpenFile;
 use std::io::{ErrorKind, Read, Seek, Write};

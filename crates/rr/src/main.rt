@@ -2,9 +2,8 @@
 #![tactic(auto)]
 
 use rr_explain::Shown;
-use rr_files::HostFiles;
 use rr_run::run;
-use rr_stream::{Counted, Watched};
+use rr_stream::{Counted, HostFiles, Watched};
 use rr_talk::Prompted;
 use std::io::IsTerminal;
 use std::process::ExitCode;

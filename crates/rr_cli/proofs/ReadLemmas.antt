@@ -3,7 +3,7 @@ use Rattle.std.proofs.Common.{◌≡◌, ◌⊎◌, ◌≤◌, ℕ, List, Option
 use Rattle.clap.specs.Words.{Text}
 use Rattle.rr_types.specs.Counts.{Grew}
 use Rattle.rr_stream.specs.Streams.{Printing, Reading, AreAllOf}
-use Rattle.rr_files.specs.Files.{Readable, reading_of}
+use Rattle.rr_stream.specs.Files.{Readable, reading_of}
 use Rattle.rr_cli.specs.Ends.{EndsOnInput, IsStreamStatus, IsUnread, unread, unheld}
 use Rattle.rr_cli.specs.Views.{left_behind}
 use Rattle.rr_cli.proofs.SweepLemmas.{grew_on}

@@ -23,7 +23,7 @@ use Rattle.rr_draw.specs.declared.cut.Cut.{Cut}
 use Rattle.rr_types.specs.Counts.{Grew}
 use Rattle.rr_disk.specs.declared.area.Area.{Area}
 use Rattle.rr_stream.specs.Streams.{Printing, Reading, IsPrinted, IsFrontPrinted, AreAllOf}
-use Rattle.rr_files.specs.Files.{Readable, file_at}
+use Rattle.rr_stream.specs.Files.{Readable, file_at}
 use Rattle.rr_image.specs.declared.inspection.AreaReport.{AreaReport}
 use Rattle.rr_image.specs.Inspect.{Tells, Breaks, inspected}
 use Rattle.rr_audit.specs.declared.given.Given.{Given}

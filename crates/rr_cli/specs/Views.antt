@@ -8,7 +8,7 @@ use Rattle.rr_text.specs.Scheduled.{IsEvent}
 use Rattle.rr_text.specs.ScheduleTexts.{event_line}
 use Rattle.rr_text.specs.ReportTexts.{report_text}
 use Rattle.rr_stream.specs.Streams.{Printing, Reading}
-use Rattle.rr_files.specs.Files.{Readable, file_at, reading_of}
+use Rattle.rr_stream.specs.Files.{Readable, file_at, reading_of}
 use Rattle.rr_account.specs.Accounts.{Accounted, IsAccountOn}
 use Rattle.rr_finish.specs.declared.finish.Ending.{Ending}
 use Rattle.rr_finish.specs.Finishes.{IsFinish}

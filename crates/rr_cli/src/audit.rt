@@ -7,7 +7,7 @@ ghost use Rattle.rr_tape.specs.Taped.{IsTapeEvent};
 ghost use Rattle.rr_tape.specs.TapeTexts.{tape_line};
 ghost use Rattle.rr_audit.specs.AuditTexts.{IsVerdictOn};
 ghost use Rattle.rr_cli.specs.Tapes.{yes_text};
-ghost use Rattle.rr_files.specs.Files.{file_at};
+ghost use Rattle.rr_stream.specs.Files.{file_at};
 ghost use Rattle.rr_cli.specs.AuditObjects.{no_status};
 ghost use Rattle.rr_cli.specs.Ends.{EndsOnTape, EndsOnInput, TellsNo, yes_in};
 
@@ -16,8 +16,7 @@ use crate::input::STANDARD_INPUT;
 use crate::refusals::{TextKind, end_by_fault, end_by_refusal};
 use crate::streams::{end_by_stream, end_by_text};
 use rr_audit::{Given, Verdict, audit_on};
-use rr_files::FileReader;
-use rr_stream::{Sink, Source, read_all};
+use rr_stream::{FileReader, Sink, Source, read_all};
 use rr_text::ReportLine;
 use rr_text::text_read::cut;
 use rr_text::text_report::push_report_words;

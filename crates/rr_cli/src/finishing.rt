@@ -2,7 +2,7 @@
 
 ghost use Rattle.std.specs.Prelude.{◌≡◌, ◌≢◌, ℕ, option_map, IfOk, IfErr};
 ghost use Rattle.std.specs.Io.KnownBytes.{Keeps};
-ghost use Rattle.rr_files.specs.Files.{reading_of};
+ghost use Rattle.rr_stream.specs.Files.{reading_of};
 ghost use Rattle.rr_cli.specs.Ends.{EndsOnInput, Prints};
 ghost use Rattle.rr_cli.specs.Finishing.{finished_by, unfinished};
 ghost use Rattle.rr_cli.specs.Views.{ShowsBoth, TellsFinish, EndsOnFinish};
@@ -12,9 +12,8 @@ use crate::refusals::{TextKind, end_by_fault, end_by_refusal};
 use crate::streams::end_by_text;
 use crate::views::{Shown, shown_text};
 use rr_account::account_on;
-use rr_files::FileReader;
 use rr_finish::{Ending, Finish, finish_run};
-use rr_stream::{Sink, Source};
+use rr_stream::{FileReader, Sink, Source};
 use rr_types::Refusal;
 use rr_words::FinishView;
 use std::alloc::Global;

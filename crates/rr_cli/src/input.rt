@@ -2,12 +2,11 @@
 
 ghost use Rattle.std.specs.Prelude.{◌≡◌, ◌≤◌, List, ℕ, option_map, Some, IfOk, IfErr, OnOk};
 ghost use Rattle.rr_stream.specs.Streams.{AreAllOf};
-ghost use Rattle.rr_files.specs.Files.{reading_of};
+ghost use Rattle.rr_stream.specs.Files.{reading_of};
 ghost use Rattle.rr_cli.specs.Ends.{IsUnread};
 
 use crate::streams::end_by_stream;
-use rr_files::FileReader;
-use rr_stream::{Source, read_all};
+use rr_stream::{FileReader, Source, read_all};
 use std::alloc::Global;
 use std::io::Write;
 

@@ -6,7 +6,7 @@ ghost use Rattle.std.specs.IoError.{error_kind};
 ghost use Rattle.clap.specs.Words.{Text};
 ghost use Rattle.rr_words.specs.declared.tasks.Form.{Form};
 ghost use Rattle.rr_words.specs.Tasks.{CutWords, Simulate, Audit, Sweep, Draw, faults_of, task_of};
-ghost use Rattle.rr_files.specs.Files.{file_at};
+ghost use Rattle.rr_stream.specs.Files.{file_at};
 ghost use Rattle.rr_cli.specs.Ends.{EndsOn, EndsOnInput, EndsBy};
 
 use crate::audit::{audit_file, audit_input};
@@ -24,10 +24,9 @@ use crate::streams::{
 use crate::sweep::{end_without_seed, sweep_by_word, sweep_file};
 use crate::verification::verify_by_word;
 use crate::words::end_by_words;
-use rr_files::FileReader;
 use rr_folders::Lockable;
 use rr_sim::report_on;
-use rr_stream::{Sink, Source, read_all};
+use rr_stream::{FileReader, Sink, Source, read_all};
 use rr_words::{Task, read_words};
 use std::alloc::Global;
 use std::convert::AsStr;

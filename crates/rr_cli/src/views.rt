@@ -3,7 +3,7 @@
 ghost use Rattle.std.specs.Prelude.{◌≡◌, option_map, IfOk, IfErr};
 ghost use Rattle.std.specs.Io.KnownBytes.{Keeps};
 ghost use Rattle.rr_words.specs.Tasks.{view_in};
-ghost use Rattle.rr_files.specs.Files.{reading_of};
+ghost use Rattle.rr_stream.specs.Files.{reading_of};
 ghost use Rattle.rr_cli.specs.Ends.{EndsOnInput};
 ghost use Rattle.rr_cli.specs.Shown.{Shows};
 ghost use Rattle.rr_cli.specs.Views.{EndsOnText, EndsOnShown, EndsOnCompared, EndsOnView, left_behind, different};
@@ -17,8 +17,7 @@ use rr_account::{
     Account, Difference, account_on, difference_of, explanation, json_explanation, json_report,
     json_statistics, push_difference, statistics_of, statistics_table,
 };
-use rr_files::FileReader;
-use rr_stream::{Sink, Source};
+use rr_stream::{FileReader, Sink, Source};
 use rr_types::Refusal;
 use rr_words::{Form, View};
 use std::alloc::Global;

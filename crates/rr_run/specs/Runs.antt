@@ -5,7 +5,7 @@ use Rattle.clap.specs.Kinds.{Kinds}
 use Rattle.clap.specs.Words.{Text}
 use Rattle.rr_types.specs.declared.refusal.Refusal.{Refusal}
 use Rattle.rr_stream.specs.Streams.{Printing}
-use Rattle.rr_files.specs.Files.{Readable, file_at}
+use Rattle.rr_stream.specs.Files.{Readable, file_at}
 use Rattle.rr_script.specs.declared.answer.Answer.{Answer}
 use Rattle.rr_script.specs.Scripted.{Scripted, IsScript}
 use Rattle.rr_script.specs.ScriptTexts.{script_text}

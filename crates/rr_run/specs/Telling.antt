@@ -6,7 +6,7 @@ use Rattle.std.specs.Io.KnownBytes.{Keeps, Appends}
 use Rattle.clap.specs.Kinds.{Kinds}
 use Rattle.clap.specs.Words.{Text}
 use Rattle.rr_stream.specs.Streams.{Reading, AreAllOf}
-use Rattle.rr_files.specs.Files.{Readable, file_at}
+use Rattle.rr_stream.specs.Files.{Readable, file_at}
 use Rattle.rr_script.specs.declared.script_line.ScriptLine.{ScriptLine}
 use Rattle.rr_script.specs.ScriptTexts.{script_text}
 use Rattle.rr_shell.specs.Texts.{used_text}

@@ -4,7 +4,7 @@ ghost use Rattle.std.specs.Prelude.{◌≡◌, ◌⊎◌, true, length, Option, 
 ghost use Rattle.std.specs.Io.KnownBytes.{Keeps};
 ghost use Rattle.clap.specs.Words.{Text};
 ghost use Rattle.rr_types.specs.declared.refusal.Refusal.TheVariants.{OutOfMemory, Device};
-ghost use Rattle.rr_files.specs.Files.{file_at};
+ghost use Rattle.rr_stream.specs.Files.{file_at};
 ghost use Rattle.rr_cli.specs.Ends.{EndsOnInput};
 ghost use Rattle.rr_cli.specs.Refusals.{status_of};
 ghost use Rattle.rr_threads.specs.Reusing.{are_reused};
@@ -18,14 +18,13 @@ use crate::ticking::tick_by;
 use rr_cli::{Form, end_by_refusal, end_by_stream, end_by_text, nodes_of, print_folder_fault};
 use rr_disk::{Disk, FileDisk};
 use rr_explain::print_script_fault;
-use rr_files::FileReader;
 use rr_folders::{
     Closed, Folders, Lockable, Locks, Survey, enter, read_only_disk, survey_folders, try_folder,
 };
 use rr_image::inspect;
 use rr_locked::Open;
 use rr_script::{Answers, Script};
-use rr_stream::{Sink, Source, read_all};
+use rr_stream::{FileReader, Sink, Source, read_all};
 use rr_tape::Tape;
 use rr_threads::{Ran, Recorder, run_script_told};
 use rr_types::{Nodes, Refusal};

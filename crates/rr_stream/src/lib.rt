@@ -19,13 +19,19 @@
 #![tactic(auto)]
 
 mod counted;
+mod host;
+mod named;
 mod progress;
+mod reader;
 mod stream;
 mod watched;
 mod whole;
 
 pub use counted::Counted;
+pub use host::HostFiles;
+pub use named::NamedText;
 pub use progress::tell_step;
+pub use reader::FileReader;
 pub use stream::{Sink, Source};
 pub use watched::Watched;
 pub use whole::{print_all, read_all};

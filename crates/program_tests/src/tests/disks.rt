@@ -2,9 +2,8 @@
 
 use rr_cli::{execute, migrate_disk, show_disk};
 use rr_disk::{Area, Disk, FailingDisk, MemDisk};
-use rr_files::HostFiles;
 use rr_run::Lockable;
-use rr_stream::Counted;
+use rr_stream::{Counted, HostFiles};
 use rr_types::{NodeId, Nodes, Refusal};
 use std::alloc::Global;
 use std::fs;

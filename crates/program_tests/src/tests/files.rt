@@ -1,8 +1,7 @@
 //! Runs over a file whose bytes are known, and over one that isn't there.
 
 use rr_cli::execute_with_views;
-use rr_files::NamedText;
-use rr_stream::Counted;
+use rr_stream::{Counted, NamedText};
 
 const SCHEDULE: &[u8] = b"nodes 1\nsubmit 0 7 1 claim a x\n";
 

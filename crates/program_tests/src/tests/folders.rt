@@ -1,8 +1,7 @@
 //! Commands over a folder that another program has locked.
 
-use rr_files::HostFiles;
 use rr_run::{Lockable, execute};
-use rr_stream::Counted;
+use rr_stream::{Counted, HostFiles};
 use std::fs;
 use std::fs::OpenFile;
 use std::io::{Read, Seek, Write};

@@ -1,8 +1,7 @@
 //! The prompt of `rr shell`.
 
-use rr_files::HostFiles;
 use rr_run::execute;
-use rr_stream::Counted;
+use rr_stream::{Counted, HostFiles};
 use rr_talk::Prompted;
 use std::fs;
 

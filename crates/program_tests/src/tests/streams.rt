@@ -1,8 +1,7 @@
 //! Runs over streams that give or take one byte a call, that are interrupted, that fail or that are closed.
 
 use rr_cli::execute;
-use rr_files::HostFiles;
-use rr_stream::Counted;
+use rr_stream::{Counted, HostFiles};
 use std::io;
 use std::io::{ErrorKind, Read, Write};
 

@@ -1,8 +1,7 @@
 //! A folder in files: what `rr` tells of it, and what it makes of it.
 
 use rr_cli::execute;
-use rr_files::HostFiles;
-use rr_stream::Counted;
+use rr_stream::{Counted, HostFiles};
 use std::alloc::AllocError;
 use std::io::Write;
 use std::{fs, io};

@@ -1,5 +1,5 @@
 use Rattle.std.proofs.Common.{subst}
-use Rattle.rr_files.specs.Files.{file_at}
+use Rattle.rr_stream.specs.Files.{file_at}
 use Rattle.rr_cli.specs.Ends.{EndsOn, read}
 use Rattle.rr_cli.proofs.ReadLemmas.{unread_status, unread_ends}
 use Rattle.rr_cli.proofs.program.simulate_file.Goals as goal

@@ -2,7 +2,7 @@ use Rattle.std.proofs.Common.{◌≡◌, ℕ, true, false, List, codes, option_m
 use Rattle.std.specs.Str.{bytes_eq}
 use Rattle.clap.specs.Words.{Text}
 use Rattle.rr_stream.specs.Streams.{Printing}
-use Rattle.rr_files.specs.Files.{Readable, file_at}
+use Rattle.rr_stream.specs.Files.{Readable, file_at}
 use Rattle.rr_cli.specs.Ends.{EndsOnInput}
 use Rattle.rr_run.specs.Runs.{EndsOnNamed, EndsOnScript}
 use Rattle.rr_run.specs.Telling.{TellsOfInput, TellsOfNamed}

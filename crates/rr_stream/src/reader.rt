@@ -4,7 +4,7 @@ ghost use Rattle.std.specs.Prelude.{◌≡◌, ◌⊎◌, ◌≤◌, IfOk, IfErr
 ghost use Rattle.std.specs.IoError.{error_kind};
 ghost use Rattle.rr_types.specs.Counts.{Grew};
 ghost use Rattle.rr_stream.specs.Streams.{AreAllOf};
-ghost use Rattle.rr_files.specs.Files.{HeldFiles};
+ghost use Rattle.rr_stream.specs.Files.{HeldFiles};
 
 use std::alloc::Global;
 use std::io;

@@ -2,8 +2,9 @@
 
 ghost use Rattle.std.specs.Prelude.{◌≡◌, None};
 
+use crate::counted::Counted;
 use crate::reader::FileReader;
-use rr_stream::{Counted, read_all};
+use crate::whole::read_all;
 use std::alloc::Global;
 use std::rt::Files;
 use std::{fs, io};
