@@ -1,6 +1,6 @@
-//! What the first page of `rr_places` shows.
+//! What the first page of `rr_registry` shows.
 
-use rr_places::Numbered;
+use rr_registry::Numbered;
 use std::alloc::AllocError;
 
 /// Puts 9 at 3, and gives what is there then. The place may need memory, and the value needs none.

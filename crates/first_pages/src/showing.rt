@@ -14,8 +14,7 @@ use rr_journal::Journal;
 use rr_locked::Locked;
 use rr_node::Node;
 use rr_parts::Heartbeat;
-use rr_places::Numbered;
-use rr_registry::Registry;
+use rr_registry::{Numbered, Registry};
 use rr_step::State;
 use rr_stream::{Counted, NamedText};
 use rr_text::Schedule;
@@ -50,7 +49,11 @@ pub fn show_values(rt: &HostRuntime, command: &Command) {
     print(rt, "rr_types", Some(command.op.kind().word()));
     let applied = registry::apply_twice(&mut Registry::new(alloc), command);
     print(rt, "rr_registry", applied.ok());
-    print(rt, "rr_places", places::put(&mut Numbered::new(alloc)).ok());
+    print(
+        rt,
+        "rr_registry",
+        places::put(&mut Numbered::new(alloc)).ok(),
+    );
     print(rt, "rr_list", list::waits(alloc, REQUEST).ok());
 }
 

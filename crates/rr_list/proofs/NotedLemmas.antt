@@ -19,8 +19,8 @@ use Rattle.rr_registry.proofs.TableLemmas.{eq-request_cmp}
 use Rattle.rr_model.specs.NodeState.{Row, row_of, put_row, is_decided, decided_command}
 use Rattle.rr_model.proofs.NodeRows.{row_of-put_row, row_of_instance}
 use Rattle.rr_model.proofs.SameCommands.{request_same, same_request}
-use Rattle.rr_places.specs.Places.{filled, has_place}
-use Rattle.rr_places.proofs.PlaceLemmas.{place_of_value}
+use Rattle.rr_registry.specs.Places.{filled, has_place}
+use Rattle.rr_registry.proofs.PlaceLemmas.{place_of_value}
 use Rattle.rr_list.specs.Listed.{put_rows, decision_at, KeepsDecisions}
 use Rattle.rr_list.specs.Rowed.{rows_in, AreKeyed, AscendFrom, AreInstances, has_decided, is_held, AreDecided, HoldsDecided, IsReached, has_request_place, HavePlaces, IsNoted, LieBelow, IsTable}
 use Rattle.rr_list.proofs.TableLemmas.{at_any, any_at, decision_some}

@@ -19,8 +19,8 @@ use Rattle.rr_types.specs.Standings.{standing_from, IsInRound}
 use Rattle.rr_types.specs.Promises.{AscendsFrom, IsAscending, standing_in, set_entry, set_standing, take_on, take_on_all, decided_from}
 use Rattle.rr_types.specs.Commands.{is_same_command}
 use Rattle.rr_model.proofs.Promised.{standing_in-take_on, standing_in-take_on_all}
-use Rattle.rr_places.specs.Places.{filled, has_place}
-use Rattle.rr_places.proofs.PlaceLemmas.{filled-set, lookup-filled, value_of_place, joined}
+use Rattle.rr_registry.specs.Places.{filled, has_place}
+use Rattle.rr_registry.proofs.PlaceLemmas.{filled-set, lookup-filled, value_of_place, joined}
 use Rattle.rr_model.specs.NodeState.{Row}
 use Rattle.rr_model.proofs.SameCommands.{same_command}
 use Rattle.rr_list.specs.Listed.{decision_at, KeepsDecisions, KeepsPromised, AllInRound}

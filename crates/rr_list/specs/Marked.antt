@@ -11,7 +11,7 @@ use Rattle.rr_types.specs.declared.promise.Standing.TheVariants.{Decided}
 use Rattle.rr_types.specs.Promises.{AscendsFrom, standing_in, decided_from}
 use Rattle.rr_types.specs.Limits.{instance_count}
 use Rattle.rr_model.specs.NodeState.{Row}
-use Rattle.rr_places.specs.Places.{filled, has_place}
+use Rattle.rr_registry.specs.Places.{filled, has_place}
 use Rattle.rr_list.specs.Listed.{decision_at}
 use Rattle.rr_list.specs.declared.marks.Marks.{Marks}
 

@@ -10,7 +10,7 @@ use Rattle.rr_types.specs.Registry.{is_same_request}
 use Rattle.rr_types.specs.Limits.{instance_count}
 use Rattle.rr_registry.specs.Kept.{request_cmp}
 use Rattle.rr_model.specs.NodeState.{Row, row_of, put_row, decided_command}
-use Rattle.rr_places.specs.Places.{has_place}
+use Rattle.rr_registry.specs.Places.{has_place}
 use Rattle.rr_list.specs.Listed.{decision_at, KeepsDecisions}
 
 -- the rows of a table, which has each at its instance

@@ -12,7 +12,7 @@ ghost use Rattle.rr_list.specs.Marked.{marked_in, tree_in, decided_entries, has_
 
 use crate::rows::Rows;
 use rr_parts::Row;
-use rr_places::{insert, make_place, value_of};
+use rr_registry::{insert, make_place, value_of};
 use rr_types::{Command, Entry, Fact, INSTANCES, Instance, Kept, Op, Standing, made_of};
 use std::alloc::{AllocError, Global};
 use std::collections::BTreeMap;

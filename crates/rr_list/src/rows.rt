@@ -9,12 +9,12 @@ ghost use Rattle.rr_registry.specs.Kept.{request_cmp};
 ghost use Rattle.rr_model.specs.NodeState.{row_of, put_row, is_decided, decided_command};
 ghost use Rattle.rr_model.specs.NodeState as model;
 ghost use Rattle.rr_model.specs.NodeStep.{promised_row};
-ghost use Rattle.rr_places.specs.Places.{filled, has_place};
+ghost use Rattle.rr_registry.specs.Places.{filled, has_place};
 ghost use Rattle.rr_list.specs.Listed.{put_rows, decision_at, KeepsDecisions};
 ghost use Rattle.rr_list.specs.Rowed.{EachKeeps, rows_in, AreKeyed, AscendFrom, AreInstances, has_decided, has_request_place, HavePlaces, IsNoted};
 
 use rr_parts::Row;
-use rr_places::{Numbered, drop_free_place, make_place, put, value_at};
+use rr_registry::{Numbered, drop_free_place, make_place, put, value_at};
 use rr_types::{Command, Instance, Kept, Op, RequestNo};
 use std::alloc::{AllocError, Global};
 use std::collections::BTreeMap;
@@ -33,7 +33,7 @@ pub(crate) struct Rows {
 impl Model for Rows {
     ghost use Rattle.std.specs.Prelude.{List};
     ghost use Rattle.rr_model.specs.NodeState as model;
-    ghost use Rattle.rr_places.specs.Places.{filled};
+    ghost use Rattle.rr_registry.specs.Places.{filled};
     ghost use Rattle.rr_list.specs.Rowed.{EachKeeps, rows_in, IsTable};
 
     ghost Value = { List model.Row };

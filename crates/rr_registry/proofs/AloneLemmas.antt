@@ -7,8 +7,8 @@ use Rattle.rr_types.specs.declared.command.RequestNo.{RequestNo}
 use Rattle.rr_types.specs.declared.command.Command.{Command}
 use Rattle.rr_types.specs.declared.command.Reply.{Reply}
 use Rattle.rr_types.specs.Registry.{is_same_request, apply_op, apply, holding_of}
-use Rattle.rr_places.specs.Places.{filled}
-use Rattle.rr_places.proofs.PlaceLemmas.{filled-put, none_of_none}
+use Rattle.rr_registry.specs.Places.{filled}
+use Rattle.rr_registry.proofs.PlaceLemmas.{filled-put, none_of_none}
 use Rattle.rr_registry.specs.declared.names.Names.{Names}
 use Rattle.rr_registry.specs.declared.tables.Tables.{Tables}
 use Rattle.rr_registry.specs.Kept.{request_cmp, kept_reply, keep, applied}

@@ -21,7 +21,7 @@ use Rattle.rr_types.specs.Registry.{Holding, Bindings, holding_of, bind, claim, 
 use Rattle.rr_registry.specs.declared.tables.Tables.{Tables}
 use Rattle.rr_registry.specs.Kept.{Kept, request_cmp, kept_reply}
 use Rattle.rr_registry.specs.Tables.{bindings_in, kept_in, has_name_place, has_reply_place, may_free, HasFreeNamesOnlyFor, HasFreeRepliesOnlyFor, HasFreeOnlyFor}
-use Rattle.rr_places.specs.Places.{filled}
+use Rattle.rr_registry.specs.Places.{filled}
 use Rattle.rr_registry.proofs.TableLemmas.{lookup-name}
 use Rattle.rr_registry.proofs.KeptLemmas.{lookup-insert_entry, reply_kept, same_back, one_request}
 

@@ -5,3 +5,5 @@ pub mod NameLemmas
 pub mod AloneLemmas
 pub mod PlacedLemmas
 pub mod PerformLemmas
+pub mod NumberedLemmas
+pub mod PlaceLemmas

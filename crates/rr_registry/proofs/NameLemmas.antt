@@ -16,8 +16,8 @@ use Rattle.rr_types.specs.declared.command.Op.TheVariants.{Claim, Update, Releas
 use Rattle.rr_types.specs.declared.command.Reply.TheVariants.{Unknown}
 use Rattle.rr_types.specs.Registry.{Holding, Bindings, holding_of, apply_op}
 use Rattle.rr_registry.specs.declared.names.Names.{Names}
-use Rattle.rr_places.specs.Places.{filled, has_place, put_entry, held}
-use Rattle.rr_places.proofs.PlaceLemmas.{joined, place_of_value, lookup-filled, filled-put}
+use Rattle.rr_registry.specs.Places.{filled, has_place, put_entry, held}
+use Rattle.rr_registry.proofs.PlaceLemmas.{joined, place_of_value, lookup-filled, filled-put}
 use Rattle.rr_registry.specs.Tables.{bindings_in, has_name_place, has_op_place, name_of}
 use Rattle.rr_registry.proofs.PlacedLemmas.{filled-set, count-set}
 use Rattle.rr_registry.proofs.TableLemmas.{lookup-name}

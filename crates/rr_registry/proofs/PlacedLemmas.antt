@@ -8,8 +8,8 @@ use Rattle.std.specs.BTreeMap.{insert_entry, is_at}
 use Rattle.std.specs.Map.{lookup, keys_of, set_value}
 use Rattle.std.proofs.lemmas.Map.Keys.{sorted_head, sorted_tail}
 use Rattle.std.proofs.lemmas.Map.Lookups.{CmpEqualImpliesEq}
-use Rattle.rr_places.specs.Places.{filled, filled_cons, put_entry, held}
-use Rattle.rr_places.proofs.PlaceLemmas.{filled-put, count-put}
+use Rattle.rr_registry.specs.Places.{filled, filled_cons, put_entry, held}
+use Rattle.rr_registry.proofs.PlaceLemmas.{filled-put, count-put}
 
 module _ {K V : Type 0} (R : K → K → Ordering) where
   -- the key is below the key of each entry

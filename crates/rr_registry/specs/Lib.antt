@@ -1,2 +1,4 @@
 pub mod Kept
 pub mod Tables
+pub mod Numbered
+pub mod Places

@@ -16,7 +16,7 @@ use Rattle.rr_registry.specs.declared.names.Effect.{Effect}
 use Rattle.rr_registry.specs.declared.names.Effect.TheVariants.{Nothing, Bind, Replace, Free}
 use Rattle.rr_registry.specs.declared.tables.Tables.{Tables}
 use Rattle.rr_registry.specs.Kept.{Kept, request_cmp, kept_reply}
-use Rattle.rr_places.specs.Places.{filled, has_place}
+use Rattle.rr_registry.specs.Places.{filled, has_place}
 
 -- the bound names
 abbrev pub bindings_in : Names → Bindings

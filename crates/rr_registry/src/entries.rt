@@ -3,7 +3,7 @@
 ghost use Rattle.std.specs.Prelude.{◌≡◌, length};
 ghost use Rattle.std.specs.Iterator.{at_most};
 ghost use Rattle.std.specs.Map.Iter.{TakesFirst};
-ghost use Rattle.rr_places.specs.Places.{filled};
+ghost use Rattle.rr_registry.specs.Places.{filled};
 
 use crate::holding::Holding;
 use rr_types::Name;
@@ -18,7 +18,7 @@ pub struct Entries<'a> {
 
 impl<'a> Model for Entries<'a> {
     ghost use Rattle.rr_types.specs.Registry.{Bindings};
-    ghost use Rattle.rr_places.specs.Places.{filled};
+    ghost use Rattle.rr_registry.specs.Places.{filled};
 
     ghost Value = { Bindings };
 

@@ -23,10 +23,14 @@
 mod entries;
 mod holding;
 mod names;
+mod numbered;
+mod places;
 mod registry;
 mod tables;
 
 pub use entries::Entries;
 pub use holding::{Holding, binding_of};
 pub use names::MAX_BOUND;
+pub use numbered::Numbered;
+pub use places::{drop_free_place, insert, make_place, put, value_at, value_of};
 pub use registry::Registry;

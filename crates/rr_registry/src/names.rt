@@ -8,12 +8,12 @@ ghost use Rattle.std.specs.Map.{keys_of};
 ghost use Rattle.std.specs.Ordering.{nat_cmp};
 ghost use Rattle.rr_types.specs.Registry.{Bindings, holding_of, apply_op, bind};
 ghost use Rattle.rr_types.specs.Limits.{max_bound};
-ghost use Rattle.rr_places.specs.Places.{held, has_place};
+ghost use Rattle.rr_registry.specs.Places.{held, has_place};
 ghost use Rattle.rr_registry.specs.Tables.{bindings_in, effected, has_name_place, has_op_place, name_of, may_free, CanHave, IsCounted, HasNoFreeName};
 
 use crate::entries::Entries;
 use crate::holding::Holding;
-use rr_places::{drop_free_place, insert, make_place, put, value_at};
+use crate::places::{drop_free_place, insert, make_place, put, value_at};
 use rr_types::{Name, Op, Reply, Value};
 use std::alloc::{AllocError, Global};
 use std::collections::BTreeMap;

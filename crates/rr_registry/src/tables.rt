@@ -11,7 +11,7 @@ ghost use Rattle.rr_registry.specs.Tables.{bindings_in, kept_in, has_places, IsC
 use crate::entries::Entries;
 use crate::holding::Holding;
 use crate::names::Names;
-use rr_places::{drop_free_place, make_place, value_at};
+use crate::places::{drop_free_place, make_place, value_at};
 use rr_types::{Command, Name, Reply, RequestNo};
 use std::alloc::{AllocError, Global};
 use std::collections::BTreeMap;

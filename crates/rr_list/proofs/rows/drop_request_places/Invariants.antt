@@ -1,5 +1,5 @@
 use Rattle.std.proofs.Common.{◌≡◌}
-use Rattle.rr_places.specs.Places.{filled}
+use Rattle.rr_registry.specs.Places.{filled}
 use Rattle.rr_list.proofs.rows.drop_request_places.Given as goal
 
 abbrev pub invariant-loop-row : goal.invariant-loop-row

@@ -4,8 +4,8 @@ use Rattle.std.specs.Map.{lookup}
 use Rattle.rr_types.specs.declared.command.RequestNo.{RequestNo}
 use Rattle.rr_registry.specs.Kept.{request_cmp}
 use Rattle.rr_registry.proofs.KeptLemmas.{requests_total}
-use Rattle.rr_places.specs.Places.{filled}
-use Rattle.rr_places.proofs.PlaceLemmas.{lookup-filled, joined, joined_cond}
+use Rattle.rr_registry.specs.Places.{filled}
+use Rattle.rr_registry.proofs.PlaceLemmas.{lookup-filled, joined, joined_cond}
 use Rattle.rr_list.specs.Listed.{decision_at}
 use Rattle.rr_list.proofs.NotedLemmas.{noted_put, reached_next, request_some}
 use Rattle.rr_list.proofs.rows.insert_request.Goals as goal

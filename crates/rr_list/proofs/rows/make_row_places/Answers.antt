@@ -4,7 +4,7 @@ use Rattle.std.specs.Ordering.{nat_cmp}
 use Rattle.std.proofs.lemmas.List.{take_all}
 use Rattle.std.proofs.lemmas.List.Elements.{All-more, All-weaker}
 use Rattle.rr_model.specs.NodeState.{Row}
-use Rattle.rr_places.specs.Places.{has_place}
+use Rattle.rr_registry.specs.Places.{has_place}
 use Rattle.rr_list.proofs.rows.make_row_places.Goals as goal
 
 pub returns-clause-made : goal.returns-clause-made

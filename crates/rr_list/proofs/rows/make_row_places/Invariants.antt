@@ -1,7 +1,7 @@
 use Rattle.std.proofs.Common.{◌≡◌, ◌<◌, IsTrue, take}
 use Rattle.std.specs.List.{All}
 use Rattle.std.specs.Ordering.{nat_cmp}
-use Rattle.rr_places.specs.Places.{filled, has_place}
+use Rattle.rr_registry.specs.Places.{filled, has_place}
 use Rattle.rr_list.proofs.rows.make_row_places.Given as goal
 
 -- the rows so far have their places

@@ -1,6 +1,6 @@
 use Rattle.std.proofs.Common.{ap, sym, ◌∙◌, option_map}
 use Rattle.rr_types.specs.declared.command.Command.{Command}
-use Rattle.rr_places.specs.Places.{filled}
+use Rattle.rr_registry.specs.Places.{filled}
 use Rattle.rr_list.specs.Listed.{decision_at}
 use Rattle.rr_list.specs.Rowed.{rows_in}
 use Rattle.rr_list.proofs.TableLemmas.{row_at, decision_none, decision_some}

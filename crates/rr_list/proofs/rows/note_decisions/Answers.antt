@@ -1,5 +1,5 @@
 use Rattle.std.proofs.Common.{◌∙◌}
-use Rattle.rr_places.specs.Places.{filled}
+use Rattle.rr_registry.specs.Places.{filled}
 use Rattle.rr_list.specs.Rowed.{rows_in}
 use Rattle.rr_list.proofs.NotedLemmas.{noted_more}
 use Rattle.rr_list.proofs.rows.note_decisions.Goals as goal

@@ -1,7 +1,7 @@
 use Rattle.std.proofs.Common.{◌≡◌, take}
 use Rattle.rr_types.specs.declared.command.RequestNo.{RequestNo}
 use Rattle.rr_registry.specs.Kept.{request_cmp}
-use Rattle.rr_places.specs.Places.{filled, has_place}
+use Rattle.rr_registry.specs.Places.{filled, has_place}
 use Rattle.rr_list.specs.Rowed.{rows_in, IsNoted}
 use Rattle.rr_list.proofs.rows.note_decisions.Given as goal
 

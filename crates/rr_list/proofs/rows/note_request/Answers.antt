@@ -4,7 +4,7 @@ use Rattle.std.specs.Map.{lookup}
 use Rattle.rr_types.specs.declared.command.RequestNo.{RequestNo}
 use Rattle.rr_registry.specs.Kept.{request_cmp}
 use Rattle.rr_registry.proofs.TableLemmas.{exact_requests}
-use Rattle.rr_places.specs.Places.{filled}
+use Rattle.rr_registry.specs.Places.{filled}
 use Rattle.rr_list.specs.Listed.{decision_at}
 use Rattle.rr_list.proofs.NotedLemmas.{noted_none, noted_put, reached_next, request_none, request_some}
 use Rattle.rr_list.proofs.rows.note_request.Goals as goal

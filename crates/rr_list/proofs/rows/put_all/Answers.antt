@@ -4,7 +4,7 @@ use Rattle.std.specs.Ordering.{nat_cmp}
 use Rattle.std.specs.Vec.Iter.{into_iter_items}
 use Rattle.std.proofs.lemmas.List.Elements.{All-tail, All-weaker}
 use Rattle.rr_model.specs.NodeState.{Row}
-use Rattle.rr_places.specs.Places.{filled, has_place}
+use Rattle.rr_registry.specs.Places.{filled, has_place}
 use Rattle.rr_list.specs.Listed.{put_rows}
 use Rattle.rr_list.specs.Rowed.{rows_in}
 use Rattle.rr_list.proofs.rows.put_all.Goals as goal

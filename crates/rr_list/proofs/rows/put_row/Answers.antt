@@ -1,6 +1,6 @@
 use Rattle.std.proofs.Common.{ap, ◌∙◌}
 use Rattle.rr_model.specs.NodeState.{Row}
-use Rattle.rr_places.specs.Places.{filled}
+use Rattle.rr_registry.specs.Places.{filled}
 use Rattle.rr_list.specs.Rowed.{rows_in}
 use Rattle.rr_list.proofs.TableLemmas.{placed_row, keyed_row}
 use Rattle.rr_list.proofs.rows.put_row.Goals as goal

@@ -1,5 +1,5 @@
 use Rattle.std.proofs.Common.{ap, ◌∙◌}
-use Rattle.rr_places.specs.Places.{filled}
+use Rattle.rr_registry.specs.Places.{filled}
 use Rattle.rr_list.proofs.MarkLemmas.{stands, standing_at}
 use Rattle.rr_list.proofs.marks.Marks.entry.Goals as goal
 

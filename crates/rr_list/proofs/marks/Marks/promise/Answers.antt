@@ -1,5 +1,5 @@
 use Rattle.std.proofs.Common.{ap, sym, ◌∙◌, ◌++◌, ◌≡◌, [], append-nil}
-use Rattle.rr_places.specs.Places.{filled}
+use Rattle.rr_registry.specs.Places.{filled}
 use Rattle.rr_list.specs.Marked.{entries_in}
 use Rattle.rr_list.proofs.PrefixLemmas.{promise_ascends}
 use Rattle.rr_list.proofs.marks.Marks.promise.Goals as goal

@@ -1,5 +1,5 @@
 use Rattle.std.proofs.Common.{◌≡◌, ◌++◌, length}
-use Rattle.rr_places.specs.Places.{filled}
+use Rattle.rr_registry.specs.Places.{filled}
 use Rattle.rr_list.specs.Marked.{entries_in, marked_in}
 use Rattle.rr_list.proofs.marks.Marks.promise.Given as goal
 

@@ -2,7 +2,7 @@ use Rattle.std.proofs.Common.{◌<◌, List, map, ap, sym, ◌∙◌, subst, IsT
 use Rattle.std.specs.List.{All}
 use Rattle.std.specs.Ordering.{nat_cmp}
 use Rattle.rr_model.specs.NodeState.{Row}
-use Rattle.rr_places.specs.Places.{filled, has_place}
+use Rattle.rr_registry.specs.Places.{filled, has_place}
 use Rattle.rr_list.specs.Listed.{put_rows, KeepsDecisions}
 use Rattle.rr_list.specs.Rowed.{rows_in, HavePlaces, HoldsDecided, has_request_place, IsNoted, AscendFrom, AreInstances}
 use Rattle.rr_list.proofs.NotedLemmas.{put_places, held_place, table_absorbed, ascend_puts, instances_puts}

@@ -1,6 +1,6 @@
 use Rattle.std.proofs.Common.{ap, is_some, ◌∙◌}
 use Rattle.std.specs.List.{list_any}
-use Rattle.rr_places.specs.Places.{filled}
+use Rattle.rr_registry.specs.Places.{filled}
 use Rattle.rr_list.specs.Rowed.{has_decided}
 use Rattle.rr_list.proofs.NotedLemmas.{held_is_decided}
 use Rattle.rr_list.proofs.rows.Rows.has_decided.Goals as goal

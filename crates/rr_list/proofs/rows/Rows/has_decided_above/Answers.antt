@@ -1,6 +1,6 @@
 use Rattle.std.proofs.Common.{ap, ◌∙◌, arith, nat_lt, ◌-◌}
 use Rattle.std.specs.List.{list_any}
-use Rattle.rr_places.specs.Places.{filled}
+use Rattle.rr_registry.specs.Places.{filled}
 use Rattle.rr_list.proofs.NotedLemmas.{is_decided_above, above_is_decided, none_decided}
 use Rattle.rr_list.proofs.rows.Rows.has_decided_above.Goals as goal
 

@@ -3,7 +3,7 @@ use Rattle.std.specs.BTreeMap.{insert_entry}
 use Rattle.std.specs.Ordering.{nat_cmp}
 use Rattle.rr_types.specs.declared.command.Command.{Command}
 use Rattle.rr_model.specs.NodeState.{Row, put_row}
-use Rattle.rr_places.specs.Places.{filled}
+use Rattle.rr_registry.specs.Places.{filled}
 use Rattle.rr_list.specs.Listed.{decision_at, KeepsDecisions}
 use Rattle.rr_list.specs.Rowed.{rows_in, IsNoted, AscendFrom, AreInstances, AreKeyed}
 use Rattle.rr_list.proofs.TableLemmas.{placed_row, keyed_row}

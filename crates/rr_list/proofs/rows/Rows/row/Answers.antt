@@ -1,6 +1,6 @@
 use Rattle.std.proofs.Common.{ap, sym, ◌∙◌}
 use Rattle.rr_model.specs.NodeState.{row_of}
-use Rattle.rr_places.specs.Places.{filled}
+use Rattle.rr_registry.specs.Places.{filled}
 use Rattle.rr_list.proofs.TableLemmas.{row_at}
 use Rattle.rr_list.proofs.rows.Rows.row.Goals as goal
 

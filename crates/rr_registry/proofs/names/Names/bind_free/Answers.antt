@@ -2,7 +2,7 @@ use Rattle.std.proofs.Common.{◌≡◌, ◌+◌, false, refl, not, is_some, len
 use Rattle.std.specs.Ordering.{nat_cmp}
 use Rattle.std.specs.Cmp.Lexicographic.{slice_cmp}
 use Rattle.rr_types.specs.Registry.{holding_of}
-use Rattle.rr_places.specs.Places.{filled, has_place}
+use Rattle.rr_registry.specs.Places.{filled, has_place}
 use Rattle.rr_registry.specs.Tables.{bindings_in, has_name_place}
 use Rattle.rr_registry.proofs.NameLemmas.{bound_alone, unheld, put_new, count_new}
 use Rattle.rr_registry.proofs.names.Names.bind_free.Goals as goal

@@ -5,7 +5,7 @@ use Rattle.std.specs.BTreeMap.{insert_entry, is_at}
 use Rattle.std.specs.Map.{lookup}
 use Rattle.std.proofs.lemmas.Map.Steps.{set_value_same}
 use Rattle.rr_types.specs.Registry.{holding_of}
-use Rattle.rr_places.specs.Places.{filled, held}
+use Rattle.rr_registry.specs.Places.{filled, held}
 use Rattle.rr_registry.specs.Tables.{bindings_in, unbind, effected, name_of, CanHave}
 use Rattle.rr_registry.proofs.TableLemmas.{remove-name}
 use Rattle.rr_registry.proofs.NameLemmas.{holding_in, unknown, written, written_count, held_some}

@@ -6,8 +6,8 @@ use Rattle.std.specs.BTreeMap.{is_at}
 use Rattle.std.specs.Map.{lookup}
 use Rattle.std.proofs.lemmas.Map.Lookups.{exact_bytes}
 use Rattle.rr_types.specs.Registry.{holding_of}
-use Rattle.rr_places.specs.Places.{filled, has_place}
-use Rattle.rr_places.proofs.PlaceLemmas.{filled-remove}
+use Rattle.rr_registry.specs.Places.{filled, has_place}
+use Rattle.rr_registry.proofs.PlaceLemmas.{filled-remove}
 use Rattle.rr_registry.specs.Tables.{bindings_in, unbind, effected, has_name_place, name_of, CanHave}
 use Rattle.rr_registry.proofs.TableLemmas.{lookup-name, remove-name}
 use Rattle.rr_registry.proofs.NameLemmas.{length_inserted, length_removed, place_of_bound, bound_alone, freed_alone}

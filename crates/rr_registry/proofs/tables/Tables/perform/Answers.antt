@@ -3,7 +3,7 @@ use Rattle.std.specs.BTreeMap.{is_at}
 use Rattle.std.specs.Map.{lookup}
 use Rattle.std.proofs.lemmas.Grind.{common_steps}
 use Rattle.std.proofs.lemmas.Map.Steps.{set_value_same}
-use Rattle.rr_places.specs.Places.{filled}
+use Rattle.rr_registry.specs.Places.{filled}
 use Rattle.rr_registry.specs.Kept.{request_cmp}
 use Rattle.rr_registry.specs.Tables.{bindings_in, kept_in}
 use Rattle.rr_registry.proofs.TableLemmas.{places_alike}
