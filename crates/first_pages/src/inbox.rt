@@ -1,6 +1,6 @@
-//! What the first page of `rr_inbox` shows.
+//! What the first page of `rr_window` shows.
 
-use rr_inbox::Outlet;
+use rr_window::Outlet;
 use std::alloc::{AllocError, Global};
 use std::sync::Wait;
 

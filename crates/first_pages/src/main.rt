@@ -54,7 +54,7 @@ fn main(rt: HostRuntime) {
         print(&rt, "rr_window", shown);
     }
     let taken = inbox::put_and_take(&rt, rt.alloc(), 5);
-    print(&rt, "rr_inbox", taken.ok());
+    print(&rt, "rr_window", taken.ok());
     showing::show_texts(&rt);
     showing::show_runs(&rt);
     showing::show_program(&rt);

@@ -9,11 +9,10 @@ ghost use Rattle.rr_threads.specs.Mails.{HearsOwn};
 use crate::desk::Desk;
 use crate::shared::Shared;
 use crate::wires::{Mail, NodeEnds, Wires};
-use rr_inbox::ROOM;
 use rr_locked::{Chase, Standstill, Ticks, Turnstile};
 use rr_turn::{Clockwork, Links, hear_kept, turn};
 use rr_types::Refusal;
-use rr_window::WindowName;
+use rr_window::{ROOM, WindowName};
 use std::sync::Wait;
 use std::time::Clock;
 

@@ -2,3 +2,4 @@ pub mod Beginnings
 pub mod Adding
 pub mod Watching
 pub mod Showing
+pub mod Moves

@@ -3,3 +3,4 @@ pub mod Windows
 pub mod Sights
 pub mod Changes
 pub mod Watches
+pub mod InOrder

@@ -37,17 +37,24 @@
 
 mod addition;
 mod change;
+mod handing;
+mod inbox;
 mod list;
 mod listing;
 mod publisher;
 mod receipt;
+mod rule;
 mod seat;
 mod served;
 mod sight;
 mod trace;
+mod view;
 mod watch;
 
 pub use change::Change;
+pub use crossbeam_channel::TrySendError;
+pub use handing::{Giver, Taker, hand_over};
+pub use inbox::{Outlet, Port, ROOM};
 pub use list::{NewList, WindowName};
 pub use publisher::{Publisher, SEATS, Window, open};
 pub use receipt::{Receipt, Told};

@@ -1,6 +1,6 @@
 //! Hand-overs of one value at a time.
 
-use rr_inbox::{Giver, Taker, TrySendError, hand_over};
+use rr_window::{Giver, Taker, TrySendError, hand_over};
 use std::alloc::Global;
 use std::process::Abort;
 use std::sync::Wait;

@@ -2,7 +2,7 @@
 
 ghost use Rattle.std.specs.Prelude.{◌<◌};
 
-use rr_inbox::{Outlet, Port, ROOM};
+use rr_window::{Outlet, Port, ROOM};
 use std::alloc::Global;
 use std::process::Abort;
 use std::sync::Wait;

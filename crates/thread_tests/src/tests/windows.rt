@@ -2,9 +2,10 @@
 
 ghost use Rattle.std.specs.Prelude.{◌≡◌};
 
-use rr_inbox::{Giver, Taker, hand_over};
 use rr_types::{Command, Name, Op, RequestNo, Value};
-use rr_window::{NewList, Publisher, Receipt, Seat, Sight, WindowName, open};
+use rr_window::{
+    Giver, NewList, Publisher, Receipt, Seat, Sight, Taker, WindowName, hand_over, open,
+};
 use std::alloc::Global;
 use std::marker::Brand;
 use std::process::Abort;

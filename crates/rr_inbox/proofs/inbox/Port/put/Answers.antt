@@ -1,5 +1,0 @@
-use Rattle.rr_inbox.proofs.Moves.{puts, learns}
-use Rattle.rr_inbox.proofs.inbox.Port.put.Goals as goal
-
-pub push_as-requires-clause-rule : goal.push_as-requires-clause-rule
-push_as-requires-clause-rule g c = (puts _ _ _ _ c.self.invariant.1, learns _ _ c.self.invariant.1)
