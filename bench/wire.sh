@@ -1,5 +1,5 @@
 #!/usr/bin/env bash
-# Messages encoded and decoded by rr_wire and by the plain Rust of bench/baseline, in turn, in one run.
+# Messages encoded and decoded by rr_frame and by the plain Rust of bench/baseline, in turn, in one run.
 # bench/wire.sh [COUNT [ROUNDS]]
 set -euo pipefail
 count=${1:-1000000}

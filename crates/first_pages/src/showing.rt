@@ -136,7 +136,7 @@ pub fn show_nodes(rt: &HostRuntime, command: &Command) {
             body: Body::Beat,
         };
         let received = wire::as_received(alloc, nodes, &message);
-        print(rt, "rr_wire", Some(received.is_ok()));
+        print(rt, "rr_frame", Some(received.is_ok()));
     }
 }
 

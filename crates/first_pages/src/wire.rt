@@ -1,7 +1,7 @@
-//! What the first page of `rr_wire` shows.
+//! What the first page of `rr_frame` shows.
 
+use rr_frame::{decode, encode};
 use rr_types::{Body, Command, Message, Nodes, Op, Refusal, made_of};
-use rr_wire::{decode, encode};
 use std::alloc::Global;
 
 /// The message that the bytes of a message are read as by one of these nodes: it is the same.

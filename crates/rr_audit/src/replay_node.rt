@@ -11,9 +11,9 @@ use crate::given::Given;
 use crate::paper::{opened, synced};
 use crate::same::is_same_message;
 use rr_core::Core;
+use rr_frame::MessageLog;
 use rr_tape::{Recorded, TapeEvent};
 use rr_types::{Group, Input, Message, NodeId, Nodes, Refusal, Reply, RequestNo};
-use rr_wire::MessageLog;
 use std::alloc::{AllocError, Global};
 use std::marker::Model;
 

@@ -7,3 +7,5 @@ pub mod Loops
 pub mod SnapshotLaws
 pub mod SnapshotShapes
 pub mod VersionLaws
+pub mod MessageLaws
+pub mod LogLaws

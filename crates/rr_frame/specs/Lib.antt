@@ -8,3 +8,5 @@ pub mod GroupFormat
 pub mod Snapshots
 pub mod SnapshotFormat
 pub mod Headings
+pub mod MessageFormat
+pub mod MessageLogs

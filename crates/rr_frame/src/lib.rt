@@ -23,19 +23,26 @@
 #![tactic(auto)]
 
 mod command;
+mod decoding;
+mod encoding;
 mod fact;
 mod group;
 mod heading;
+mod log;
 mod number;
 mod reader;
 mod snapshot;
+mod spellings;
 mod stop;
 mod version;
 
 pub use command::{put_command, read_command};
+pub use decoding::decode;
+pub use encoding::encode;
 pub use fact::{decode_fact, encode_fact, put_estimate, put_fact, read_estimate, read_fact};
 pub use group::{decode_group, encode_group, read_group};
 pub use heading::{Heading, snapshot_heading};
+pub use log::MessageLog;
 pub use number::{put_u8, put_u16, put_u32, put_u64};
 pub use reader::Reader;
 pub use snapshot::{Snapshot, decode_snapshot, encode_snapshot, read_snapshot};

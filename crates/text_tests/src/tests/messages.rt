@@ -1,9 +1,9 @@
 use super::expected::assert_same;
+use rr_frame::{decode, encode};
 use rr_types::{
     Body, Command, Estimate, Instance, Message, Name, NodeId, NodeSet, Nodes, Op, Refusal,
     RequestNo, Round, Value,
 };
-use rr_wire::{decode, encode};
 use std::alloc::Global;
 use std::process::Abort;
 

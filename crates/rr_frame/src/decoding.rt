@@ -5,9 +5,13 @@ ghost use Rattle.rr_types.specs.declared.message.Message.{Message as Messaged};
 ghost use Rattle.rr_frame.specs.declared.version.Version.{Version as Versioned};
 ghost use Rattle.rr_frame.specs.Reading.{Gives};
 ghost use Rattle.rr_frame.specs.Refused.{answer_of};
-ghost use Rattle.rr_wire.specs.MessageFormat.{message_bytes_in, IsLawfulMessageIn, node_at, set_at, backed_at, free_at, body_at, message_at, message_in};
+ghost use Rattle.rr_frame.specs.MessageFormat.{message_bytes_in, IsLawfulMessageIn, node_at, set_at, backed_at, free_at, body_at, message_at, message_in};
 
-use rr_frame::{Fault, Reader, Version, read_command, read_estimate, read_version};
+use crate::command::read_command;
+use crate::fact::read_estimate;
+use crate::reader::Reader;
+use crate::stop::Fault;
+use crate::version::{Version, read_version};
 use rr_types::{Body, Message, NodeId, NodeSet, Nodes, Refusal};
 
 #[tactic(auto, unfolding(crate::specs::MessageFormat::node_at))]

@@ -21,7 +21,7 @@ use Rattle.rr_frame.proofs.FieldLaws.{IsBytes, bind_ok, if_lawful_ok, ok_is, Tak
 use Rattle.rr_frame.proofs.VersionLaws.{version_takes, version_again}
 use Rattle.rr_frame.proofs.CommandLaws.{chosen, command_takes, command_again}
 use Rattle.rr_frame.proofs.FactLaws.{instance_takes, instance_again, round_takes, round_again, estimate_takes, estimate_again, at_end_ok}
-use Rattle.rr_wire.specs.MessageFormat.{body_bytes, message_bytes_in, IsLawfulBodyIn, IsLawfulMessageIn, node_at, set_at, backed_at, free_at, body_at, message_at, message_in}
+use Rattle.rr_frame.specs.MessageFormat.{body_bytes, message_bytes_in, IsLawfulBodyIn, IsLawfulMessageIn, node_at, set_at, backed_at, free_at, body_at, message_at, message_in}
 
 -- ---- a node and a set
 

@@ -1,7 +1,7 @@
 -- Messages kept as their bytes: their spellings one behind another, and where each ends.
 use Rattle.std.specs.Prelude.{◌≡◌, ℕ, ◌==◌, nat_le, Bool, ◌&&◌, List, [], ◌∷◌, ◌++◌, length, slice_range, Result, Ok, Err, is_ok}
 use Rattle.rr_types.specs.declared.message.Message.{Message}
-use Rattle.rr_wire.specs.MessageFormat.{message_in}
+use Rattle.rr_frame.specs.MessageFormat.{message_in}
 
 -- the message that was read, if one was
 abbrev pub found : Result Message ℕ → List Message

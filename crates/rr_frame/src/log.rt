@@ -2,7 +2,7 @@
 
 ghost use Rattle.std.specs.Prelude.{◌≡◌, List, [], ◌∷◌, ◌++◌, length, OnOk, OnErr, slice_get};
 ghost use Rattle.rr_types.specs.declared.message.Message.{Message};
-ghost use Rattle.rr_wire.specs.MessageLogs.{IsEndOf};
+ghost use Rattle.rr_frame.specs.MessageLogs.{IsEndOf};
 
 use crate::spellings::Spellings;
 use rr_types::{Body, Command, Message, Op, made_of};
@@ -23,7 +23,7 @@ pub struct MessageLog {
 impl Model for MessageLog {
     ghost use Rattle.std.specs.Prelude.{List};
     ghost use Rattle.rr_types.specs.declared.message.Message.{Message};
-    ghost use Rattle.rr_wire.specs.MessageLogs.{IsEndOf};
+    ghost use Rattle.rr_frame.specs.MessageLogs.{IsEndOf};
 
     ghost Value = { List Message };
 

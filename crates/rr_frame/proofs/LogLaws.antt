@@ -8,9 +8,9 @@ use Rattle.std.specs.Result.{result_ok}
 use Rattle.rr_frame.specs.Refused.{answer_of}
 use Rattle.rr_types.specs.declared.message.Message.{Message}
 use Rattle.rr_frame.specs.declared.version.Version.TheVariants.{Two}
-use Rattle.rr_wire.specs.MessageFormat.{message_bytes, message_in, IsLawfulMessage}
-use Rattle.rr_wire.specs.MessageLogs.{messages_in, are_spellings}
-use Rattle.rr_wire.proofs.MessageLaws.{message_spelt}
+use Rattle.rr_frame.specs.MessageFormat.{message_bytes, message_in, IsLawfulMessage}
+use Rattle.rr_frame.specs.MessageLogs.{messages_in, are_spellings}
+use Rattle.rr_frame.proofs.MessageLaws.{message_spelt}
 
 -- what the test of the first spelling says
 record IsFirst (bytes : List ℕ) (from end : ℕ) (ends : List ℕ) : Type 0 where

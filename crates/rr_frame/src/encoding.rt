@@ -3,10 +3,13 @@
 ghost use Rattle.std.specs.Prelude.{◌≡◌, ◌<◌, ◌++◌, IfOk, OnOk};
 ghost use Rattle.rr_types.specs.Limits.{instance_count};
 ghost use Rattle.rr_frame.specs.Numbers.{number_bytes};
-ghost use Rattle.rr_wire.specs.MessageFormat.{body_bytes, message_bytes, IsLawfulBody, IsLawfulMessage};
+ghost use Rattle.rr_frame.specs.MessageFormat.{body_bytes, message_bytes, IsLawfulBody, IsLawfulMessage};
 
+use crate::command::put_command;
+use crate::fact::put_estimate;
+use crate::number::{put_u8, put_u32};
+use crate::version::Version;
 use bytes::Bytes;
-use rr_frame::{Version, put_command, put_estimate, put_u8, put_u32};
 use rr_types::{Body, Instance, Message};
 use std::alloc::{AllocError, Global};
 

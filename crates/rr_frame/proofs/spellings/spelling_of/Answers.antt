@@ -1,9 +1,9 @@
 use Rattle.std.proofs.Common.{◌∙◌, ap, sym}
 use Rattle.std.specs.Result.{result_ok}
 use Rattle.std.proofs.lemmas.Option.{slice_get_past}
-use Rattle.rr_wire.specs.MessageLogs.{messages_in}
-use Rattle.rr_wire.proofs.LogLaws.{IsSpeltBetween, spelt_between, log_length}
-use Rattle.rr_wire.proofs.spellings.spelling_of.Goals as goal
+use Rattle.rr_frame.specs.MessageLogs.{messages_in}
+use Rattle.rr_frame.proofs.LogLaws.{IsSpeltBetween, spelt_between, log_length}
+use Rattle.rr_frame.proofs.spellings.spelling_of.Goals as goal
 
 pub returns-in_err-end : goal.returns-in_err-end
 returns-in_err-end c =

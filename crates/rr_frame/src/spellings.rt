@@ -2,8 +2,8 @@
 
 ghost use Rattle.std.specs.Prelude.{◌≡◌, ◌<◌, [], ◌∷◌, ◌++◌, length, OnOk, OnErr, IsTrue, slice_get, slice_index, option_and_then};
 ghost use Rattle.std.specs.Result.{result_ok};
-ghost use Rattle.rr_wire.specs.MessageFormat.{message_bytes, message_in, IsLawfulMessage};
-ghost use Rattle.rr_wire.specs.MessageLogs.{messages_in, are_spellings};
+ghost use Rattle.rr_frame.specs.MessageFormat.{message_bytes, message_in, IsLawfulMessage};
+ghost use Rattle.rr_frame.specs.MessageLogs.{messages_in, are_spellings};
 
 use crate::decoding::decode;
 use crate::encoding::put_message;
@@ -25,7 +25,7 @@ pub(crate) struct Spellings {
 impl Model for Spellings {
     ghost use Rattle.std.specs.Prelude.{IsTrue, List};
     ghost use Rattle.rr_types.specs.declared.message.Message.{Message};
-    ghost use Rattle.rr_wire.specs.MessageLogs.{messages_in, are_spellings};
+    ghost use Rattle.rr_frame.specs.MessageLogs.{messages_in, are_spellings};
 
     ghost Value = { List Message };
 

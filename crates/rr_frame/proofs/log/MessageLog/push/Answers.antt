@@ -1,8 +1,8 @@
 use Rattle.std.proofs.Common.{◌≡◌, List, [], ◌∷◌, ◌++◌, sym, ap, subst, ◌∙◌}
 use Rattle.std.proofs.lemmas.List.{append_assoc}
 use Rattle.rr_types.specs.declared.message.Message.{Message}
-use Rattle.rr_wire.specs.MessageLogs.{IsEndOf}
-use Rattle.rr_wire.proofs.log.MessageLog.push.Goals as goal
+use Rattle.rr_frame.specs.MessageLogs.{IsEndOf}
+use Rattle.rr_frame.proofs.log.MessageLog.push.Goals as goal
 
 -- where the kept are the same, they still stand at the end
 same_end : (old new all : List Message) → new ≡ old → IsEndOf old all → IsEndOf new all

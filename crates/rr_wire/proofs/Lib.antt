@@ -1,2 +1,0 @@
-pub mod MessageLaws
-pub mod LogLaws

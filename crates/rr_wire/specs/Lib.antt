@@ -1,2 +1,0 @@
-pub mod MessageFormat
-pub mod MessageLogs
