@@ -1,6 +1,6 @@
-//! What the first page of `rr_image` shows.
+//! What the first page of `rr_journal` shows.
 
-use rr_image::inspect_bytes;
+use rr_journal::inspect_bytes;
 use rr_types::Refusal;
 use std::alloc::Global;
 

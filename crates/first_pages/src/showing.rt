@@ -84,7 +84,7 @@ pub fn show_disks(rt: &HostRuntime, instance: Instance, command: &Command) {
         "rr_frame",
         frame::adoption(alloc, instance, *command).ok(),
     );
-    print(rt, "rr_image", image::epoch_of(alloc, b"", b"").ok());
+    print(rt, "rr_journal", image::epoch_of(alloc, b"", b"").ok());
     print(rt, "rr_journal", count_appended(alloc, instance, command));
     print(
         rt,

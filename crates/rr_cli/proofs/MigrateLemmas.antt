@@ -4,7 +4,7 @@ use Rattle.std.specs.Prelude.{Vec, IfOk, IfErr}
 use Rattle.std.specs.declared.alloc.Global.{Global}
 use Rattle.rr_types.specs.declared.refusal.Refusal.{Refusal}
 use Rattle.rr_types.specs.declared.refusal.Refusal.TheVariants as refusals
-use Rattle.rr_image.specs.Inspect.{Inspected}
+use Rattle.rr_journal.specs.Inspect.{Inspected}
 use Rattle.rr_journal.specs.OpeningCourse.{IsRefused}
 use Rattle.rr_stream.specs.Streams.{Printing}
 use Rattle.rr_cli.specs.Areas.{IsShown}

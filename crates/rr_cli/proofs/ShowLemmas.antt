@@ -6,9 +6,9 @@ use Rattle.std.specs.declared.alloc.Global.{Global}
 use Rattle.rr_types.specs.declared.refusal.Refusal.{Refusal}
 use Rattle.rr_types.specs.declared.refusal.Refusal.TheVariants as refusals
 use Rattle.rr_disk.specs.declared.area.Area.{Area}
-use Rattle.rr_image.specs.declared.inspection.AreaReport.{AreaReport}
-use Rattle.rr_image.specs.Inspect.{Inspects, IsTold, inspected}
-use Rattle.rr_image.proofs.InspectLaws.{seen_by}
+use Rattle.rr_journal.specs.declared.inspection.AreaReport.{AreaReport}
+use Rattle.rr_journal.specs.Inspect.{Inspects, IsTold, inspected}
+use Rattle.rr_journal.proofs.InspectLaws.{seen_by}
 use Rattle.rr_text.specs.ReportTexts.{line}
 use Rattle.rr_words.specs.declared.tasks.Form.{Form}
 use Rattle.rr_words.specs.declared.tasks.Form.TheVariants.{Plain}

@@ -1,7 +1,7 @@
 -- The areas of a disk as JSON: an object each.
 use Rattle.std.specs.Prelude.{ℕ, List, ◌++◌, codes, Option, None, Some}
 use Rattle.rr_frame.specs.Versions.{version_number}
-use Rattle.rr_image.specs.declared.inspection.AreaReport.{AreaReport}
+use Rattle.rr_journal.specs.declared.inspection.AreaReport.{AreaReport}
 use Rattle.rr_json.specs.Json.{number_member, object_line}
 
 -- an area of this number: that it isn't formatted; or its epoch, its node of so many, the number of its next fact, how many

@@ -5,8 +5,8 @@ use Rattle.rr_types.specs.declared.refusal.Refusal.{Refusal}
 use Rattle.rr_text.specs.ReportTexts.{line}
 use Rattle.rr_frame.specs.declared.version.Version.{Version}
 use Rattle.rr_frame.specs.declared.version.Version.TheVariants.{One, Two}
-use Rattle.rr_image.specs.declared.inspection.AreaReport.{AreaReport}
-use Rattle.rr_image.specs.Inspect.{Inspected, Tells, IsTold}
+use Rattle.rr_journal.specs.declared.inspection.AreaReport.{AreaReport}
+use Rattle.rr_journal.specs.Inspect.{Inspected, Tells, IsTold}
 use Rattle.rr_words.specs.declared.tasks.Form.{Form}
 use Rattle.rr_words.specs.declared.tasks.Form.TheVariants.{Plain, Json}
 use Rattle.rr_cli.specs.AreaObjects.{areas_objects}

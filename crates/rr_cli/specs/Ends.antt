@@ -24,8 +24,8 @@ use Rattle.rr_types.specs.Counts.{Grew}
 use Rattle.rr_disk.specs.declared.area.Area.{Area}
 use Rattle.rr_stream.specs.Streams.{Printing, Reading, IsPrinted, IsFrontPrinted, AreAllOf}
 use Rattle.rr_stream.specs.Files.{Readable, file_at}
-use Rattle.rr_image.specs.declared.inspection.AreaReport.{AreaReport}
-use Rattle.rr_image.specs.Inspect.{Tells, Breaks, inspected}
+use Rattle.rr_journal.specs.declared.inspection.AreaReport.{AreaReport}
+use Rattle.rr_journal.specs.Inspect.{Tells, Breaks, inspected}
 use Rattle.rr_audit.specs.declared.given.Given.{Given}
 use Rattle.rr_cli.specs.Areas.{areas_text, areas_in}
 use Rattle.rr_cli.specs.AuditObjects.{yes_object, no_object, no_status}

@@ -3,7 +3,7 @@ use Rattle.std.specs.Prelude.{◌≡◌, ◌⊎◌, ℕ, List, Ok, Vec}
 use Rattle.std.specs.declared.alloc.Global.{Global}
 use Rattle.rr_types.specs.declared.refusal.Refusal.{Refusal}
 use Rattle.rr_disk.specs.Areas.{Areas}
-use Rattle.rr_image.specs.Inspect.{inspected}
+use Rattle.rr_journal.specs.Inspect.{inspected}
 use Rattle.rr_journal.specs.Openings.{Settling}
 use Rattle.rr_journal.specs.OpeningCourse.{areas_after, calls_from}
 use Rattle.rr_cli.specs.Areas.{IsShown}

@@ -3,7 +3,7 @@
 ghost use Rattle.std.specs.Prelude.{◌≡◌, ◌++◌, None, Some, OnOk, IfOk};
 ghost use Rattle.rr_cli.specs.AreaObjects.{area_object, areas_objects};
 
-use rr_image::AreaReport;
+use rr_journal::AreaReport;
 use rr_json::{push_end, push_number_member, push_open};
 use std::alloc::{AllocError, Global};
 

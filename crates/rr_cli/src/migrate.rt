@@ -4,7 +4,7 @@ ghost use Rattle.std.specs.Prelude.{◌≡◌, ◌⊎◌, ◌<◌, ◌^◌, ℕ,
 ghost use Rattle.std.specs.Io.KnownBytes.{Keeps};
 ghost use Rattle.rr_types.specs.declared.refusal.Refusal.TheVariants.{Device, OutOfMemory};
 ghost use Rattle.rr_disk.specs.Areas.{bytes_of};
-ghost use Rattle.rr_image.specs.Inspect.{inspected};
+ghost use Rattle.rr_journal.specs.Inspect.{inspected};
 ghost use Rattle.rr_journal.specs.Openings.{Settling, Stops, end_by};
 ghost use Rattle.rr_journal.specs.OpeningCourse.{found_from};
 ghost use Rattle.rr_cli.specs.Areas.{IsShown};

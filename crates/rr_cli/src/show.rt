@@ -6,7 +6,7 @@ ghost use Rattle.rr_types.specs.declared.refusal.Refusal.TheVariants.{Device};
 ghost use Rattle.rr_text.specs.ReportTexts.{line};
 ghost use Rattle.rr_disk.specs.Areas.{bytes_of};
 ghost use Rattle.rr_types.specs.Counts.{counted, Grew};
-ghost use Rattle.rr_image.specs.Inspect.{inspected};
+ghost use Rattle.rr_journal.specs.Inspect.{inspected};
 ghost use Rattle.rr_cli.specs.Areas.{area_words, areas_text, areas_in, IsShown, IsShownIn};
 ghost use Rattle.rr_cli.specs.Ends.{EndsOnFolder};
 
@@ -16,7 +16,7 @@ use crate::streams::end_by_text;
 use rr_disk::Disk;
 use rr_folders::{Lockable, Shares, read_only_disk, share_node};
 use rr_frame::Version;
-use rr_image::{AreaReport, inspect};
+use rr_journal::{AreaReport, inspect};
 use rr_stream::Sink;
 use rr_types::Refusal;
 use rr_words::Form;

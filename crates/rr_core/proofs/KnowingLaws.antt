@@ -6,9 +6,9 @@ use Rattle.rr_disk.specs.Crash.{IsCrashImage}
 use Rattle.rr_journal.specs.declared.journal.Journal.{Journal}
 use Rattle.rr_journal.specs.declared.opened.Opened.{Opened}
 use Rattle.rr_journal.specs.OpeningStates.{OpeningState}
-use Rattle.rr_image.specs.Image.{Active}
-use Rattle.rr_image.specs.Held.{Holds}
-use Rattle.rr_image.proofs.ImageLaws.{facts_after_a_crash}
+use Rattle.rr_journal.specs.Image.{Active}
+use Rattle.rr_journal.specs.Held.{Holds}
+use Rattle.rr_journal.proofs.ImageLaws.{facts_after_a_crash}
 use Rattle.rr_journal.specs.declared.opening.End.{End}
 use Rattle.rr_journal.specs.declared.opening.Progress.{Progress}
 use Rattle.rr_journal.specs.StepsInPlace.{as_progress, Begins, BeginsAgain}

@@ -4,7 +4,7 @@ use Rattle.rr_types.specs.declared.fact.Fact.{Fact}
 use Rattle.rr_disk.specs.Areas.{Areas}
 use Rattle.rr_disk.specs.Crash.{Images, IsCrashImage}
 use Rattle.rr_journal.specs.OpeningStates.{OpeningState}
-use Rattle.rr_image.specs.Held.{Holds}
+use Rattle.rr_journal.specs.Held.{Holds}
 use Rattle.rr_journal.specs.Fronts.{KnowsFronts}
 use Rattle.rr_journal.specs.OpeningTable.{OpensAny}
 use Rattle.rr_journal.specs.Phases.{phase_of}

@@ -14,7 +14,7 @@ use Rattle.rr_journal.specs.declared.opened.Opened.{Opened}
 use Rattle.rr_journal.specs.OpeningStates.{OpeningState}
 use Rattle.rr_journal.specs.declared.opening.Progress as journal
 use Rattle.rr_journal.specs.declared.opening.Progress.TheVariants as of_journal
-use Rattle.rr_image.specs.Image.{Active, found}
+use Rattle.rr_journal.specs.Image.{Active, found}
 use Rattle.rr_journal.specs.OpeningSteps.{Steps}
 use Rattle.rr_core.specs.Known.{HoldSoMany}
 use Rattle.rr_core.specs.declared.steps.Progress.{Progress}

@@ -5,7 +5,7 @@ ghost use Rattle.rr_types.specs.declared.fact.Fact.{Fact};
 ghost use Rattle.rr_types.specs.declared.refusal.Refusal.TheVariants.{Device};
 ghost use Rattle.rr_disk.specs.Failing.{FailingRead, FailingWrite, FailingSync};
 ghost use Rattle.rr_journal.specs.CrashedDisks.{MayStand, EachHoldsSome, SomeHolds};
-ghost use Rattle.rr_image.specs.Held.{Holds};
+ghost use Rattle.rr_journal.specs.Held.{Holds};
 ghost use Rattle.rr_journal.specs.Openings.{Settling, Refused, due_call};
 ghost use Rattle.rr_journal.specs.OpeningTable.{contents, OpensAny, OpensWith};
 ghost use Rattle.rr_journal.specs.Phases.{phase_of};

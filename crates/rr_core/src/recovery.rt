@@ -6,7 +6,7 @@ ghost use Rattle.rr_types.specs.declared.refusal.Refusal.TheVariants.{OutOfMemor
 ghost use Rattle.rr_disk.specs.Areas.{extent_of};
 ghost use Rattle.rr_model.specs.NodeStep.{started};
 ghost use Rattle.rr_journal.specs.CrashedDisks.{MayStand, EachHoldsSome, IsOpenWithOneOf, AddsSameAlone};
-ghost use Rattle.rr_image.specs.Held.{Holds};
+ghost use Rattle.rr_journal.specs.Held.{Holds};
 ghost use Rattle.rr_journal.specs.OpenDisks.{IsOpenWith, IsReady, disk_behind};
 ghost use Rattle.rr_journal.specs.OpeningCourse.{found_from, calls_from, EndsBy, IsDone, IsRefused, IsAsBefore, IsLeftAlone};
 ghost use Rattle.rr_journal.specs.Openings.{Settling};

@@ -5,7 +5,7 @@ ghost use Rattle.rr_types.specs.declared.fact.Fact.{Fact};
 ghost use Rattle.rr_types.specs.declared.refusal.Refusal.TheVariants.{OutOfMemory, Device};
 ghost use Rattle.rr_types.specs.Counts.{counted};
 ghost use Rattle.rr_journal.specs.CrashedDisks.{MayStand, IsReading, AddsNone};
-ghost use Rattle.rr_image.specs.Held.{Holds};
+ghost use Rattle.rr_journal.specs.Held.{Holds};
 ghost use Rattle.rr_journal.specs.Fronts.{KnowsOther};
 ghost use Rattle.rr_journal.specs.OpeningCourse.{found_from, StaysOnCourse, IsRefused, IsUntouched};
 ghost use Rattle.rr_journal.specs.OpeningSteps.{Steps, MaySnap};

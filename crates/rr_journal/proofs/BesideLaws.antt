@@ -9,10 +9,10 @@ use Rattle.rr_frame.specs.declared.version.Version.{Version}
 use Rattle.rr_frame.specs.declared.version.Version.TheVariants.{Two}
 use Rattle.rr_journal.specs.Moments.{image_of, with_image}
 use Rattle.rr_journal.specs.Calls.{must_close}
-use Rattle.rr_image.specs.Image.{Content, Active, Front, Blank, Begins, frame_behind, front_behind, front_of, content_behind, active_in, active, found_by, found}
+use Rattle.rr_journal.specs.Image.{Content, Active, Front, Blank, Begins, frame_behind, front_behind, front_of, content_behind, active_in, active, found_by, found}
 use Rattle.rr_journal.specs.OtherAreas.{other_area}
 use Rattle.rr_journal.proofs.FoundLaws.{fronts, is_active}
-use Rattle.rr_image.proofs.ReadingLaws.{reaches}
+use Rattle.rr_journal.proofs.ReadingLaws.{reaches}
 
 -- the active area begins with an open gate
 begins_closes : (version : Version) (n p : ℕ) (c : Content) (bytes rest : List ℕ) → front_of n p bytes ≡ Begins version c rest → must_close bytes ≡ true

@@ -19,10 +19,10 @@ use Rattle.rr_journal.specs.declared.opening.Phase.TheVariants as at
 use Rattle.rr_journal.specs.declared.stage.Stage.{Stage}
 use Rattle.rr_journal.specs.declared.stage.Stage.TheVariants.{Closing, SettlingClosed, WritingBody, SettlingBody, OpeningGate, SettlingGate}
 use Rattle.rr_journal.specs.Calls.{Call, after_call, rewrite_calls, must_close}
-use Rattle.rr_image.specs.Ends.{area_number}
-use Rattle.rr_image.specs.Image.{Found, Unformatted, Broken, Active, Outdated, found}
+use Rattle.rr_journal.specs.Ends.{area_number}
+use Rattle.rr_journal.specs.Image.{Found, Unformatted, Broken, Active, Outdated, found}
 use Rattle.rr_journal.specs.Openings.{Phase, Settling, ReadingFirst, ReadingSecond, Rewriting, After, Goes, Opens, Stops, snapshot_with, formatted, bytes_in, migrate_calls, end_by, due_call, after_found, after_opening_call}
-use Rattle.rr_image.specs.Migration.{migrated, may_migrate}
+use Rattle.rr_journal.specs.Migration.{migrated, may_migrate}
 use Rattle.rr_journal.specs.OpeningCourse.{calls_left, whole_read, found_from, calls_by, calls_from, areas_after, EndsBy, StaysOnCourse, IsDone, IsRefused, IsDue, IsAsBefore, IsLeftAlone, IsUntouched}
 use Rattle.rr_journal.specs.OpeningStates.{OpeningState}
 use Rattle.rr_journal.specs.OpeningTable.{IsReadBy, IsLeftBy}

@@ -10,8 +10,8 @@ use Rattle.rr_disk.specs.Crash.{Agrees, MayLeave, Images, IsCrashImage}
 use Rattle.rr_disk.proofs.Agreeing.{at_rest_image}
 use Rattle.rr_journal.specs.declared.journal.Journal.{Journal}
 use Rattle.rr_journal.specs.declared.opened.Opened.{Opened}
-use Rattle.rr_image.specs.Image.{found}
-use Rattle.rr_image.specs.Held.{Holds}
+use Rattle.rr_journal.specs.Image.{found}
+use Rattle.rr_journal.specs.Held.{Holds}
 use Rattle.rr_journal.specs.Openings.{Phase, Settling, ReadingFirst, ReadingSecond, Rewriting}
 use Rattle.rr_journal.specs.OpeningCourse.{whole_read, found_from, IsAsBefore, IsUntouched}
 use Rattle.rr_journal.specs.OpeningStates.{OpeningState}
@@ -20,7 +20,7 @@ use Rattle.rr_journal.specs.Rewrites.{writes_anew}
 use Rattle.rr_journal.specs.Phases.{phase_of}
 use Rattle.rr_journal.specs.OpenDisks.{IsOpenWith}
 use Rattle.rr_journal.specs.CrashedDisks.{MayStand, EachHoldsSome, IsOpenWithOneOf, IsReading, AddsNone, AddsSameAlone}
-use Rattle.rr_image.proofs.ImageLaws.{read_whole}
+use Rattle.rr_journal.proofs.ImageLaws.{read_whole}
 use Rattle.rr_journal.proofs.HeldLaws.{rest_held}
 use Rattle.rr_journal.proofs.OpeningLaws.{bytes_firm}
 

@@ -20,12 +20,12 @@ use Rattle.rr_journal.specs.Moments.{image_of, with_image, body_written, gate_op
 use Rattle.rr_journal.proofs.Content.{body_front, body_back, front_less}
 use Rattle.rr_journal.specs.declared.journal.Journal.{Journal}
 use Rattle.rr_journal.specs.Calls.{frame_bytes}
-use Rattle.rr_image.specs.Image as grammar
-use Rattle.rr_image.specs.Image.{Content, Found, Active, after_payload, content_from, active, found}
-use Rattle.rr_image.specs.Held.{StandsFor, Holds}
+use Rattle.rr_journal.specs.Image as grammar
+use Rattle.rr_journal.specs.Image.{Content, Found, Active, after_payload, content_from, active, found}
+use Rattle.rr_journal.specs.Held.{StandsFor, Holds}
 use Rattle.rr_journal.specs.Journals.{IsOver, once_flushed}
-use Rattle.rr_image.proofs.FrameLaws.{frame_again}
-use Rattle.rr_image.proofs.ReadingLaws.{one_frame, at_closed}
+use Rattle.rr_journal.proofs.FrameLaws.{frame_again}
+use Rattle.rr_journal.proofs.ReadingLaws.{one_frame, at_closed}
 use Rattle.rr_journal.proofs.FoundLaws.{is_found}
 
 take_on_more : (es : List Entry) (facts more : List Fact) → take_on_all es (facts ++ more) ≡ take_on_all (take_on_all es facts) more

@@ -8,7 +8,7 @@ use Rattle.rr_frame.specs.declared.version.Version.TheVariants.{One, Two}
 use Rattle.rr_frame.specs.Snapshots.{Snapped}
 use Rattle.rr_frame.specs.SnapshotFormat.{snapshot_in}
 use Rattle.rr_journal.specs.Calls.{must_close}
-use Rattle.rr_image.specs.Image.{Content, Unformatted, Broken, Front, Blank, Faulty, Begins, is_formatted, frame_behind, of_node, front_behind, front_of, content_behind, active, found_by, found}
+use Rattle.rr_journal.specs.Image.{Content, Unformatted, Broken, Front, Blank, Faulty, Begins, is_formatted, frame_behind, of_node, front_behind, front_of, content_behind, active, found_by, found}
 
 -- ---- areas that aren't formatted
 

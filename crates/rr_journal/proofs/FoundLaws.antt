@@ -10,9 +10,9 @@ use Rattle.rr_frame.specs.declared.version.Version.TheVariants.{One, Two}
 use Rattle.rr_frame.specs.Snapshots.{Snapped}
 use Rattle.rr_frame.specs.SnapshotFormat.{snapshot_in}
 use Rattle.rr_journal.specs.Moments.{image_of, with_image}
-use Rattle.rr_image.specs.Image.{Content, Unformatted, Broken, Active, Front, Blank, Faulty, Begins, frame_behind, content_from, of_node, front_behind, front_of, content_behind, active_in, active, found_by, found}
-use Rattle.rr_image.proofs.ContentLemmas.{front_begins}
-use Rattle.rr_image.proofs.ReadingLaws.{frame_parts, frame_same, same_front, same_part, reaches}
+use Rattle.rr_journal.specs.Image.{Content, Unformatted, Broken, Active, Front, Blank, Faulty, Begins, frame_behind, content_from, of_node, front_behind, front_of, content_behind, active_in, active, found_by, found}
+use Rattle.rr_journal.proofs.ContentLemmas.{front_begins}
+use Rattle.rr_journal.proofs.ReadingLaws.{frame_parts, frame_same, same_front, same_part, reaches}
 
 -- an area's first frame, and so it is of all bytes that begin so, up to the next gate
 pub record Fronts (version : Version) (n p : ℕ) (c : Content) (bytes rest : List ℕ) : Type 0 where

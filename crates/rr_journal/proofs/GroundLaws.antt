@@ -17,13 +17,13 @@ use Rattle.rr_journal.specs.Flushes.{Flush}
 use Rattle.rr_journal.specs.Moments.{image_of, with_image, EachHolds, IsGrounded}
 use Rattle.rr_journal.proofs.Content.{one_area}
 use Rattle.rr_journal.specs.Calls.{frame_bytes, must_close}
-use Rattle.rr_image.specs.Image.{Content, Found, Active, Blank, Begins, front_of, content_behind, found}
-use Rattle.rr_image.specs.Held.{StandsFor, Holds}
+use Rattle.rr_journal.specs.Image.{Content, Found, Active, Blank, Begins, front_of, content_behind, found}
+use Rattle.rr_journal.specs.Held.{StandsFor, Holds}
 use Rattle.rr_journal.specs.OtherAreas.{other_area}
 use Rattle.rr_journal.proofs.FlushLaws.{frame_split}
 use Rattle.rr_journal.proofs.FormatLaws.{closed_blank, short_blank}
-use Rattle.rr_image.proofs.FrameLaws.{begun}
-use Rattle.rr_image.proofs.ReadingLaws.{at_closed}
+use Rattle.rr_journal.proofs.FrameLaws.{begun}
+use Rattle.rr_journal.proofs.ReadingLaws.{at_closed}
 use Rattle.rr_journal.proofs.BesideLaws.{blank_beside, newer_beside}
 
 -- the content that a snapshot begins

@@ -6,7 +6,7 @@ use Rattle.rr_disk.specs.Areas.{Areas}
 use Rattle.rr_disk.specs.Crash.{Images, IsCrashImage, restarted}
 use Rattle.rr_disk.proofs.Agreeing.{at_rest_image}
 use Rattle.rr_journal.specs.Moments.{EachHolds, EachHoldsEither}
-use Rattle.rr_image.specs.Held.{Holds}
+use Rattle.rr_journal.specs.Held.{Holds}
 
 -- the group of no facts adds none
 pub either_held : (holds : Images → List Fact → Type 0) (facts : List Fact) (both : Areas) → EachHoldsEither holds both facts [] → EachHolds holds both facts

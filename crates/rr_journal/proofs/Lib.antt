@@ -17,3 +17,11 @@ pub mod SnapshotSize
 pub mod StageLaws
 pub mod SwitchLaws
 pub mod Table
+pub mod ChoiceLaws
+pub mod ContentLemmas
+pub mod EntryLemmas
+pub mod FrameLaws
+pub mod ImageLaws
+pub mod InspectLaws
+pub mod ReadingLaws
+pub mod TakeLemmas

@@ -9,10 +9,10 @@ use Rattle.rr_disk.specs.Crash.{Images}
 use Rattle.rr_frame.specs.SnapshotFormat.{snapshot_bytes}
 use Rattle.rr_journal.specs.Moments.{EachHolds}
 use Rattle.rr_journal.specs.Calls.{rewrite_calls, must_close}
-use Rattle.rr_image.specs.Image.{Found, Unformatted, Broken, Active, Outdated, found}
-use Rattle.rr_image.specs.Held.{Holds}
+use Rattle.rr_journal.specs.Image.{Found, Unformatted, Broken, Active, Outdated, found}
+use Rattle.rr_journal.specs.Held.{Holds}
 use Rattle.rr_journal.specs.Openings.{Phase, Settling, ReadingFirst, ReadingSecond, Rewriting, After, Goes, Opens, Stops, snapshot_with, formatted, bytes_in, migrate_calls, end_by, after_found, after_opening_call}
-use Rattle.rr_image.specs.Migration.{migrated, may_migrate}
+use Rattle.rr_journal.specs.Migration.{migrated, may_migrate}
 use Rattle.rr_journal.specs.OpeningCourse.{calls_left}
 use Rattle.rr_journal.specs.OpeningStates.{OpeningState}
 use Rattle.rr_journal.specs.OpeningTable.{OpensAny, OpensWith, IsKept}

@@ -18,16 +18,16 @@ use Rattle.rr_journal.specs.declared.opening.Fronts.{Fronts}
 use Rattle.rr_journal.specs.Calls.{Call, after_call, must_close}
 use Rattle.rr_journal.specs.Fronts.{front_beside}
 use Rattle.rr_journal.specs.OtherAreas.{other_area}
-use Rattle.rr_image.specs.Image.{Content, Found, Unformatted, Broken, Active, Outdated, found}
-use Rattle.rr_image.specs.Held.{StandsFor, Holds}
+use Rattle.rr_journal.specs.Image.{Content, Found, Unformatted, Broken, Active, Outdated, found}
+use Rattle.rr_journal.specs.Held.{StandsFor, Holds}
 use Rattle.rr_journal.specs.Journals.{IsOver}
 use Rattle.rr_journal.specs.Openings.{Rewriting, Opens, bytes_in, snapshot_with, end_by, due_call}
-use Rattle.rr_image.specs.Migration.{may_migrate}
+use Rattle.rr_journal.specs.Migration.{may_migrate}
 use Rattle.rr_journal.specs.Phases.{phase_of}
 use Rattle.rr_journal.specs.OpeningTable.{IsReadBy, IsLeftBy, IsResting, Rests, OpensWith, IsKept}
 use Rattle.rr_journal.specs.Rewrites.{Rewrite, writes_anew, area_anew, content_anew, flush_anew, IsInStage, IsRewriting}
 use Rattle.rr_journal.specs.Stages.{first_stage, call_at, calls_from, stage_behind}
-use Rattle.rr_image.proofs.ImageLaws.{read_whole}
+use Rattle.rr_journal.proofs.ImageLaws.{read_whole}
 use Rattle.rr_journal.proofs.HeldLaws.{rest_held}
 use Rattle.rr_journal.proofs.RewriteLaws.{Behind, goes_rewriting, held_rewriting, failed_rewriting}
 use Rattle.rr_journal.proofs.StageLaws.{due_at}

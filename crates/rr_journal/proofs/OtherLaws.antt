@@ -9,11 +9,11 @@ use Rattle.rr_journal.specs.declared.opening.Fronts.{Fronts}
 use Rattle.rr_journal.specs.declared.opening.Phase.{Phase}
 use Rattle.rr_journal.specs.declared.opening.Phase.TheVariants as at
 use Rattle.rr_journal.specs.Calls.{after_call, must_close}
-use Rattle.rr_image.specs.Image.{Found, Unformatted, Broken, Active, Outdated, found}
+use Rattle.rr_journal.specs.Image.{Found, Unformatted, Broken, Active, Outdated, found}
 use Rattle.rr_journal.specs.Fronts.{front_beside, KnowsFronts, KnowsRead}
 use Rattle.rr_journal.specs.Openings as openings
 use Rattle.rr_journal.specs.Openings.{Settling, ReadingFirst, ReadingSecond, Rewriting, After, Goes, Opens, Stops, migrate_calls, bytes_in, end_by, due_call, after_found, after_opening_call}
-use Rattle.rr_image.specs.Migration.{may_migrate, migrated}
+use Rattle.rr_journal.specs.Migration.{may_migrate, migrated}
 use Rattle.rr_journal.specs.OpeningCourse.{IsLeftAlone}
 use Rattle.rr_journal.specs.OpeningTable.{IsReadBy}
 use Rattle.rr_journal.specs.OtherAreas.{other_area, closes_in}

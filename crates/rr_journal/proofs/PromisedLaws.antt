@@ -22,9 +22,9 @@ use Rattle.rr_frame.proofs.FactLaws.{at_end_ok}
 use Rattle.rr_frame.proofs.FieldLaws.{bind_ok, ok_is}
 use Rattle.rr_frame.proofs.SnapshotShapes.{contents_stand}
 use Rattle.rr_journal.specs.Moments.{image_of}
-use Rattle.rr_image.specs.Image.{Content, Blank, Faulty, Begins, frame_behind, with_group, after_payload, after_frame, content_from, is_formatted, of_node, front_behind, front_of, content_behind, active_in, found}
+use Rattle.rr_journal.specs.Image.{Content, Blank, Faulty, Begins, frame_behind, with_group, after_payload, after_frame, content_from, is_formatted, of_node, front_behind, front_of, content_behind, active_in, found}
 use Rattle.rr_journal.proofs.FoundLaws.{is_active}
-use Rattle.rr_image.proofs.ReadingLaws.{after_parts}
+use Rattle.rr_journal.proofs.ReadingLaws.{after_parts}
 
 -- a standing of node p of n, if there is one, in which the node proposes lawfully
 abbrev may_stand : ℕ → ℕ → Option Standing → Bool

@@ -14,14 +14,14 @@ use Rattle.rr_disk.proofs.Torn.{torn_written}
 use Rattle.rr_frame.specs.declared.version.Version.TheVariants.{One, Two}
 use Rattle.rr_frame.specs.Snapshots.{Snapped}
 use Rattle.rr_frame.specs.SnapshotFormat.{snapshot_bytes, IsLawfulSnapshot}
-use Rattle.rr_image.specs.Image.{Content, Found, Unformatted, Broken, Active, Outdated, Front, Blank, Begins, front_of, active, found_by, found}
-use Rattle.rr_image.specs.Held.{StandsFor, Holds}
+use Rattle.rr_journal.specs.Image.{Content, Found, Unformatted, Broken, Active, Outdated, Front, Blank, Begins, front_of, active, found_by, found}
+use Rattle.rr_journal.specs.Held.{StandsFor, Holds}
 use Rattle.rr_journal.specs.Flushes.{Flush}
 use Rattle.rr_journal.specs.Moments.{image_of, with_image, with_group, gate_opened, body_written, IsGrounded, IsAt, EachHolds, body_due, body_out, body_safe, gate_set}
 use Rattle.rr_journal.specs.Calls.{Write, after_call, must_close}
 use Rattle.rr_journal.specs.OpeningTable.{IsLeftBy}
 use Rattle.rr_journal.specs.Openings.{snapshot_with}
-use Rattle.rr_image.specs.Migration.{snapshot_size, migrated, may_migrate}
+use Rattle.rr_journal.specs.Migration.{snapshot_size, migrated, may_migrate}
 use Rattle.rr_journal.specs.Rewrites.{writes_anew, area_anew, content_anew, IsSized, flush_anew, IsInStage}
 use Rattle.rr_journal.specs.declared.stage.Stage.{Stage}
 use Rattle.rr_journal.specs.declared.stage.Stage.TheVariants.{Closing, SettlingClosed, WritingBody, SettlingBody, OpeningGate, SettlingGate}

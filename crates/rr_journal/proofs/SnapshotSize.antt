@@ -5,7 +5,7 @@ use Rattle.rr_types.specs.declared.promise.Entry.{Entry}
 use Rattle.rr_frame.specs.Snapshots.{Snapped, IsSnapshot, proposes_lawfully}
 use Rattle.rr_frame.specs.SnapshotFormat.{snapshot_bytes, snapshot_bytes_in, entry_bytes, owner_bytes, contents_bytes}
 use Rattle.rr_frame.proofs.FieldLaws.{length-number_bytes}
-use Rattle.rr_image.specs.Migration.{snapshot_size}
+use Rattle.rr_journal.specs.Migration.{snapshot_size}
 
 pub snapshot_sized : (s : Snapped) → length (snapshot_bytes s) ≡ snapshot_size s.entries
 unfolding snapshot_bytes_in owner_bytes contents_bytes

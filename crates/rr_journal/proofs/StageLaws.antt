@@ -1,7 +1,7 @@
 -- A stage's device call is the first of those that are left.
 use Rattle.std.proofs.Common.{◌≡◌, ℕ, ◌≤◌, List, length, refl, arith}
 use Rattle.rr_disk.specs.declared.area.Area.{Area}
-use Rattle.rr_image.specs.Image.{Found}
+use Rattle.rr_journal.specs.Image.{Found}
 use Rattle.rr_journal.specs.declared.stage.Stage.{Stage}
 use Rattle.rr_journal.specs.declared.stage.Stage.TheVariants.{Closing, SettlingClosed, WritingBody, SettlingBody, OpeningGate, SettlingGate}
 use Rattle.rr_journal.specs.Openings.{Rewriting, due_call}

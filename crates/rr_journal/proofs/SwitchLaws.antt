@@ -16,8 +16,8 @@ use Rattle.rr_journal.proofs.Content.{extent_restarted, image_of_with, synced_wr
 use Rattle.rr_journal.proofs.Table.{due_holds, out_holds, safe_holds, set_holds, to_out, to_safe, to_set, to_group, body_refused, gate_refused}
 use Rattle.rr_journal.specs.declared.journal.Journal.{Journal}
 use Rattle.rr_journal.specs.Calls.{Write, after_call, frame_bytes, must_close}
-use Rattle.rr_image.specs.Image.{Content, Active}
-use Rattle.rr_image.specs.Held.{Holds}
+use Rattle.rr_journal.specs.Image.{Content, Active}
+use Rattle.rr_journal.specs.Held.{Holds}
 use Rattle.rr_journal.specs.Journals.{IsOver}
 use Rattle.rr_journal.specs.OpeningTable.{IsLeftBy}
 use Rattle.rr_journal.specs.OtherAreas.{other_area}

@@ -6,8 +6,8 @@ use Rattle.rr_disk.specs.Crash.{Images, IsCrashImage}
 use Rattle.rr_journal.specs.Moments.{EachHolds}
 use Rattle.rr_journal.specs.declared.journal.Journal.{Journal}
 use Rattle.rr_journal.specs.declared.opened.Opened.{Opened}
-use Rattle.rr_image.specs.Image.{found}
-use Rattle.rr_image.specs.Held.{Holds}
+use Rattle.rr_journal.specs.Image.{found}
+use Rattle.rr_journal.specs.Held.{Holds}
 use Rattle.rr_journal.specs.Openings.{Phase, Settling, ReadingFirst, ReadingSecond, Rewriting}
 use Rattle.rr_journal.specs.Rewrites.{writes_anew}
 use Rattle.rr_journal.specs.OpeningTable.{contents}

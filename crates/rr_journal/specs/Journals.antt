@@ -3,8 +3,8 @@ use Rattle.std.specs.Prelude.{◌≡◌, ◌+◌, false, List, length}
 use Rattle.rr_types.specs.declared.fact.Fact.{Fact}
 use Rattle.rr_types.specs.Promises.{promise_of}
 use Rattle.rr_disk.specs.Crash.{Images}
-use Rattle.rr_image.specs.Held.{Holds}
-use Rattle.rr_image.specs.Image.{Active, found}
+use Rattle.rr_journal.specs.Held.{Holds}
+use Rattle.rr_journal.specs.Image.{Active, found}
 use Rattle.rr_journal.specs.Flushes.{Flush}
 use Rattle.rr_journal.specs.declared.journal.Journal.{Journal}
 

@@ -17,3 +17,10 @@ pub mod Stages
 pub mod StepsInPlace
 pub mod SwitchTable
 pub mod Switches
+pub mod Choices
+pub mod Ends
+pub mod Entries
+pub mod Held
+pub mod Image
+pub mod Inspect
+pub mod Migration

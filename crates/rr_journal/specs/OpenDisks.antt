@@ -6,7 +6,7 @@ use Rattle.rr_types.specs.Promises.{promise_of}
 use Rattle.rr_disk.specs.Areas.{Areas}
 use Rattle.rr_disk.specs.Crash.{Images, restarted}
 use Rattle.rr_frame.specs.Snapshots.{IsSnapshot}
-use Rattle.rr_image.specs.Image.{Active, found}
+use Rattle.rr_journal.specs.Image.{Active, found}
 use Rattle.rr_journal.specs.declared.journal.Journal.{Journal}
 use Rattle.rr_journal.specs.declared.opened.Opened.{Opened}
 use Rattle.rr_journal.specs.Journals.{IsOver}

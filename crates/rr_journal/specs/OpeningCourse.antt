@@ -11,10 +11,10 @@ use Rattle.rr_journal.specs.declared.opened.Opened.{Opened}
 use Rattle.rr_journal.specs.declared.opening.Progress as code_2
 use Rattle.rr_journal.specs.declared.opening.Progress.TheVariants as progress
 use Rattle.rr_journal.specs.Calls.{Call, Read, Sync, after_call, format_calls}
-use Rattle.rr_image.specs.Ends.{area_number}
-use Rattle.rr_image.specs.Image.{Found, Unformatted, Broken, Active, Outdated, found}
+use Rattle.rr_journal.specs.Ends.{area_number}
+use Rattle.rr_journal.specs.Image.{Found, Unformatted, Broken, Active, Outdated, found}
 use Rattle.rr_journal.specs.Openings.{Phase, Settling, ReadingFirst, ReadingSecond, Rewriting, Opens, Stops, bytes_in, migrate_calls, end_by, due_call}
-use Rattle.rr_image.specs.Migration.{may_migrate}
+use Rattle.rr_journal.specs.Migration.{may_migrate}
 use Rattle.rr_journal.specs.OtherAreas.{other_area}
 use Rattle.rr_journal.specs.OpeningStates.{OpeningState}
 use Rattle.rr_journal.specs.Phases.{phase_of}

@@ -12,8 +12,8 @@ use Rattle.rr_journal.specs.declared.opening.Next.TheVariants as next
 use Rattle.rr_journal.specs.declared.opening.Progress as code_3
 use Rattle.rr_journal.specs.declared.opening.Progress.TheVariants as progress
 use Rattle.rr_journal.specs.Calls.{Call, Read, Write, Sync}
-use Rattle.rr_image.specs.Image.{Active, found}
-use Rattle.rr_image.specs.Held.{Holds}
+use Rattle.rr_journal.specs.Image.{Active, found}
+use Rattle.rr_journal.specs.Held.{Holds}
 use Rattle.rr_journal.specs.OpenDisks.{IsOpenWith, IsOpenAtRest}
 use Rattle.rr_journal.specs.Rewrites.{IsRewriting}
 

@@ -7,9 +7,9 @@ use Rattle.rr_disk.specs.declared.area.Area.{Area}
 use Rattle.rr_disk.specs.declared.area.Area.TheVariants.{First, Second}
 use Rattle.rr_frame.specs.Snapshots.{Snapped}
 use Rattle.rr_frame.specs.SnapshotFormat.{snapshot_bytes}
-use Rattle.rr_image.specs.Ends.{area_number}
-use Rattle.rr_image.specs.Image.{Content, Found, Unformatted, Broken, Active, Outdated, found}
-use Rattle.rr_image.specs.Migration.{migrated, may_migrate}
+use Rattle.rr_journal.specs.Ends.{area_number}
+use Rattle.rr_journal.specs.Image.{Content, Found, Unformatted, Broken, Active, Outdated, found}
+use Rattle.rr_journal.specs.Migration.{migrated, may_migrate}
 use Rattle.rr_journal.specs.Calls.{Call, Read, Write, Sync, must_close, rewrite_calls, format_calls}
 use Rattle.rr_journal.specs.OtherAreas.{other_area}
 

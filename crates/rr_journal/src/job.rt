@@ -5,14 +5,14 @@ ghost use Rattle.rr_types.specs.declared.fact.Fact.{Fact};
 ghost use Rattle.rr_types.specs.declared.refusal.Refusal.TheVariants.{Device, Failed};
 ghost use Rattle.rr_types.specs.Counts.{counted, Grew};
 ghost use Rattle.rr_disk.specs.Crash.{Images};
-ghost use Rattle.rr_image.specs.Held.{Holds};
+ghost use Rattle.rr_journal.specs.Held.{Holds};
 ghost use Rattle.rr_journal.specs.Moments.{IsAt, EachHolds, EachHoldsEither, body_due, body_out, body_safe, gate_set, group_safe};
 
 use crate::call::{sync, write};
+use crate::content::OPEN_GATE;
 use crate::journal::Journal;
 use crate::synced::Synced;
 use rr_disk::{Area, Disk};
-use rr_image::OPEN_GATE;
 use rr_types::{Group, NodeId, Nodes, Refusal};
 use std::marker::Model;
 

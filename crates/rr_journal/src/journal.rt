@@ -8,7 +8,7 @@ ghost use Rattle.rr_disk.specs.Crash.{Images, restarted};
 ghost use Rattle.rr_frame.specs.GroupFormat.{group_bytes, IsLawfulGroup};
 ghost use Rattle.rr_journal.specs.Moments.{IsAt, body_due, with_group};
 ghost use Rattle.rr_journal.specs.Calls.{frame_bytes};
-ghost use Rattle.rr_image.specs.Held.{Holds};
+ghost use Rattle.rr_journal.specs.Held.{Holds};
 ghost use Rattle.rr_journal.specs.Journals.{IsOver, once_flushed};
 
 use crate::job::{Body, Job};

@@ -46,10 +46,15 @@
 #![tactic(auto)]
 
 mod call;
+mod content;
+mod entries;
+mod image;
+mod inspection;
 mod job;
 mod journal;
 mod opened;
 mod opening;
+mod promised;
 mod rewrite;
 mod snapshot;
 mod stage;
@@ -58,6 +63,9 @@ mod switch_call;
 mod synced;
 mod trust;
 
+pub use content::Content;
+pub use image::{Image, read_image};
+pub use inspection::{AreaReport, inspect, inspect_bytes};
 pub use job::{Body, BodyOut, BodySafe, GateSet, Job};
 pub use journal::{Journal, frame};
 pub use opened::Opened;

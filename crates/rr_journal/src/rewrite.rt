@@ -6,21 +6,22 @@ ghost use Rattle.rr_types.specs.declared.refusal.Refusal.TheVariants.{OutOfMemor
 ghost use Rattle.rr_types.specs.Counts.{counted, Grew};
 ghost use Rattle.rr_frame.specs.Snapshots.{IsSnapshot};
 ghost use Rattle.rr_frame.specs.SnapshotFormat.{snapshot_bytes, IsLawfulSnapshot};
-ghost use Rattle.rr_image.specs.Ends.{found_of};
-ghost use Rattle.rr_image.specs.Image.{Unformatted, Outdated};
+ghost use Rattle.rr_journal.specs.Ends.{found_of};
+ghost use Rattle.rr_journal.specs.Image.{Unformatted, Outdated};
 ghost use Rattle.rr_journal.specs.Calls.{frame_bytes, after_call};
 ghost use Rattle.rr_journal.specs.Openings.{Opens, snapshot_with, formatted, end_by};
-ghost use Rattle.rr_image.specs.Migration.{migrated, may_migrate};
+ghost use Rattle.rr_journal.specs.Migration.{migrated, may_migrate};
 ghost use Rattle.rr_journal.specs.OpeningTable.{IsLeftBy};
 ghost use Rattle.rr_journal.specs.Rewrites.{IsSized, writes_anew, area_anew};
 ghost use Rattle.rr_journal.specs.Stages.{first_stage, call_at, Gave};
 
+use crate::content::Content;
+use crate::image::Image;
 use crate::journal::frame;
 use crate::snapshot::{beside, frame_of};
 use crate::stage::Stage;
 use rr_disk::{Area, Disk};
 use rr_frame::{Snapshot, encode_snapshot};
-use rr_image::{Content, Image};
 use rr_types::{NodeId, Nodes, Promise, Refusal};
 use std::alloc::Global;
 use std::marker::Model;
@@ -35,7 +36,7 @@ pub struct Rewrite {
 }
 
 impl Model for Rewrite {
-    ghost use Rattle.rr_image.specs.Ends.{found_of};
+    ghost use Rattle.rr_journal.specs.Ends.{found_of};
     ghost use Rattle.rr_journal.specs.Rewrites.{Rewrite as RewriteOf, IsSized};
 
     ghost Value = { RewriteOf };

@@ -8,8 +8,8 @@ ghost use Rattle.rr_journal.specs.Calls.{after_call};
 ghost use Rattle.rr_journal.specs.OpeningTable.{IsLeftBy};
 ghost use Rattle.rr_journal.specs.Stages.{first_stage, stage_behind, call_at, Gave};
 
+use crate::content::OPEN_GATE;
 use rr_disk::{Area, Disk};
-use rr_image::OPEN_GATE;
 use rr_types::Refusal;
 
 /// How far the writing of an area has come: the device call that is due.

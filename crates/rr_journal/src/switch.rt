@@ -5,7 +5,7 @@ ghost use Rattle.rr_types.specs.declared.fact.Fact.{Fact};
 ghost use Rattle.rr_types.specs.declared.refusal.Refusal.TheVariants.{Device, Failed};
 ghost use Rattle.rr_types.specs.Counts.{counted, Grew};
 ghost use Rattle.rr_journal.specs.Moments.{EachHolds};
-ghost use Rattle.rr_image.specs.Held.{Holds};
+ghost use Rattle.rr_journal.specs.Held.{Holds};
 ghost use Rattle.rr_journal.specs.Stages.{first_stage, stage_behind, Gave};
 ghost use Rattle.rr_journal.specs.Switches.{due_call};
 ghost use Rattle.rr_journal.specs.SwitchTable.{GoesOn, IsSwitching, StandsBehind};

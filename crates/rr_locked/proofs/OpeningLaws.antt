@@ -6,7 +6,7 @@ use Rattle.rr_types.specs.declared.refusal.Refusal.{Refusal}
 use Rattle.rr_types.specs.Counts.{counted}
 use Rattle.rr_disk.specs.declared.area.Area.{Area}
 use Rattle.rr_disk.specs.Areas.{Areas}
-use Rattle.rr_image.specs.Image.{Found}
+use Rattle.rr_journal.specs.Image.{Found}
 use Rattle.rr_model.specs.NodeState.{NodeState}
 use Rattle.rr_journal.specs.declared.journal.Journal.{Journal}
 use Rattle.rr_journal.specs.declared.opening.Progress.TheVariants as progress

@@ -4,7 +4,7 @@ ghost use Rattle.std.specs.Prelude.{◌≡◌, ◌⊎◌, ◌++◌, [], true, fa
 ghost use Rattle.rr_types.specs.declared.fact.Fact.{Fact};
 ghost use Rattle.rr_types.specs.Promises.{all_fit};
 ghost use Rattle.rr_disk.specs.Crash.{Images, restarted};
-ghost use Rattle.rr_image.specs.Held.{Holds};
+ghost use Rattle.rr_journal.specs.Held.{Holds};
 ghost use Rattle.rr_journal.specs.Moments.{IsAt, EachHolds, EachHoldsEither, body_due, group_safe};
 ghost use Rattle.rr_journal.specs.Journals.{IsOver, once_flushed};
 ghost use Rattle.rr_types.specs.Counts.{counted};

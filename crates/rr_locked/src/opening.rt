@@ -3,7 +3,7 @@
 ghost use Rattle.std.specs.Prelude.{◌≡◌, ◌⊎◌, ◌+◌, ◌<◌, ◌≤◌, List, IfOk, IfErr};
 ghost use Rattle.rr_types.specs.declared.fact.Fact.{Fact};
 ghost use Rattle.rr_types.specs.declared.refusal.Refusal.TheVariants.{OutOfMemory, Device};
-ghost use Rattle.rr_image.specs.Held.{Holds};
+ghost use Rattle.rr_journal.specs.Held.{Holds};
 ghost use Rattle.rr_journal.specs.OpenDisks.{IsOpenWith, disk_behind};
 ghost use Rattle.rr_journal.specs.OpeningCourse.{calls_left, found_from, EndsBy, IsRefused};
 ghost use Rattle.rr_journal.specs.OpeningTable.{contents, OpensWith, IsKept};

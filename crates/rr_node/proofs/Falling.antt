@@ -18,11 +18,11 @@ use Rattle.rr_frame.specs.GroupFormat.{group_bytes, IsLawfulGroup}
 use Rattle.rr_frame.specs.SnapshotFormat.{snapshot_bytes, IsLawfulSnapshot}
 use Rattle.rr_journal.specs.Moments.{image_of, IsGrounded, EachHolds}
 use Rattle.rr_journal.specs.Calls.{Call, Sync, frame_bytes, must_close, after_failing, after_starved}
-use Rattle.rr_image.specs.Image.{Found, Unformatted, Broken, Active, Outdated}
-use Rattle.rr_image.specs.Held.{Holds}
+use Rattle.rr_journal.specs.Image.{Found, Unformatted, Broken, Active, Outdated}
+use Rattle.rr_journal.specs.Held.{Holds}
 use Rattle.rr_journal.specs.Openings as opening
 use Rattle.rr_journal.specs.Openings.{due_call, snapshot_with}
-use Rattle.rr_image.specs.Migration.{snapshot_size}
+use Rattle.rr_journal.specs.Migration.{snapshot_size}
 use Rattle.rr_journal.specs.OpeningTable.{IsLeftBy}
 use Rattle.rr_journal.specs.Rewrites.{writes_anew, area_anew, content_anew, flush_anew, IsInStage, IsRewriting}
 use Rattle.rr_journal.proofs.FlushLaws.{length-frame}

@@ -22,7 +22,7 @@ use Rattle.rr_journal.specs.Moments.{with_group, IsGrounded}
 use Rattle.rr_journal.proofs.Table.{to_group}
 use Rattle.rr_journal.specs.declared.journal.Journal.{Journal}
 use Rattle.rr_journal.specs.Calls.{Call, after_call, after_starved, append_calls}
-use Rattle.rr_image.specs.Held.{Holds}
+use Rattle.rr_journal.specs.Held.{Holds}
 use Rattle.rr_journal.specs.Journals.{IsOver, once_flushed}
 use Rattle.rr_journal.proofs.FlushLaws.{length-frame}
 use Rattle.rr_types.specs.declared.event.NodeEvent.TheVariants as at

@@ -19,7 +19,7 @@ use Rattle.rr_disk.specs.Crash.{Images, IsCrashImage, restarted}
 use Rattle.rr_frame.specs.GroupFormat.{group_bytes, IsLawfulGroup}
 use Rattle.rr_journal.specs.Moments.{with_group, EachHolds, EachHoldsEither, IsGrounded}
 use Rattle.rr_journal.proofs.Table.{due_holds, out_holds, safe_holds, set_holds}
-use Rattle.rr_image.specs.Held.{Holds}
+use Rattle.rr_journal.specs.Held.{Holds}
 use Rattle.rr_journal.specs.Journals.{IsOver, once_flushed}
 use Rattle.rr_journal.proofs.FlushLaws.{grounded, over_after}
 use Rattle.rr_core.proofs.GroupLemmas.{runs_is}

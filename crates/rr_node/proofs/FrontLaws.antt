@@ -10,7 +10,7 @@ use Rattle.rr_disk.specs.Crash.{Images, restarted}
 use Rattle.rr_journal.specs.Moments.{image_of}
 use Rattle.rr_journal.specs.declared.journal.Journal.{Journal}
 use Rattle.rr_journal.specs.Calls.{Call, Read, Write, Sync, after_call, must_close}
-use Rattle.rr_image.specs.Image.{Content}
+use Rattle.rr_journal.specs.Image.{Content}
 use Rattle.rr_journal.specs.OtherAreas.{other_area, closes_in, IsOtherKnown}
 use Rattle.rr_journal.proofs.FoundLaws.{is_found}
 use Rattle.rr_journal.proofs.OtherLaws.{settled_closes}

@@ -6,8 +6,8 @@ use Rattle.rr_model.specs.NodeState.{NodeState}
 use Rattle.rr_disk.specs.Areas.{Areas}
 use Rattle.rr_journal.specs.Moments.{EachHolds}
 use Rattle.rr_journal.specs.Calls.{Call}
-use Rattle.rr_image.specs.Image.{Found}
-use Rattle.rr_image.specs.Held.{Holds}
+use Rattle.rr_journal.specs.Image.{Found}
+use Rattle.rr_journal.specs.Held.{Holds}
 use Rattle.rr_journal.specs.Openings as opening
 use Rattle.rr_journal.proofs.RewriteLaws.{held_rewriting}
 use Rattle.rr_journal.proofs.SwitchLaws.{held}

@@ -22,13 +22,13 @@ use Rattle.rr_frame.specs.SnapshotFormat.{snapshot_bytes, IsLawfulSnapshot}
 use Rattle.rr_journal.specs.Calls.{Call, Sync, after_call, must_close, rewrite_calls}
 use Rattle.rr_journal.specs.declared.stage.Stage as slots
 use Rattle.rr_journal.specs.declared.stage.Stage.TheVariants as step
-use Rattle.rr_image.specs.Image.{Content, Found, Unformatted, Broken, Active, Outdated, found}
-use Rattle.rr_image.specs.Held.{StandsFor, Holds}
+use Rattle.rr_journal.specs.Image.{Content, Found, Unformatted, Broken, Active, Outdated, found}
+use Rattle.rr_journal.specs.Held.{StandsFor, Holds}
 use Rattle.rr_journal.specs.Journals.{IsOver}
 use Rattle.rr_journal.specs.Moments.{image_of}
 use Rattle.rr_journal.specs.Openings as opening
 use Rattle.rr_journal.specs.Openings.{After, Goes, Opens, Stops, bytes_in, snapshot_with, formatted, migrate_calls, after_found, end_by}
-use Rattle.rr_image.specs.Migration.{migrated, may_migrate}
+use Rattle.rr_journal.specs.Migration.{migrated, may_migrate}
 use Rattle.rr_journal.specs.OpeningTable.{contents, Rests}
 use Rattle.rr_journal.specs.OtherAreas.{other_area}
 use Rattle.rr_journal.specs.Rewrites.{writes_anew, area_anew, content_anew, flush_anew, IsInStage, IsRewriting}

@@ -17,7 +17,7 @@ use Rattle.rr_frame.specs.CommandFormat.{IsLawfulCommand}
 use Rattle.rr_frame.specs.GroupFormat.{IsLawfulGroup}
 use Rattle.rr_frame.specs.Snapshots.{IsSnapshot, is_by_coordinator, proposes_lawfully}
 use Rattle.rr_frame.specs.SnapshotFormat.{IsLawfulSnapshot, IsLawfulStandingIn, IsLawfulEntryIn}
-use Rattle.rr_image.specs.Image.{Found}
+use Rattle.rr_journal.specs.Image.{Found}
 use Rattle.rr_journal.specs.declared.opening.Phase.{Phase}
 use Rattle.rr_journal.specs.declared.opening.Phase.TheVariants as step
 use Rattle.rr_journal.specs.Openings.{snapshot_with}

@@ -2,8 +2,8 @@
 use Rattle.std.proofs.Common.{◌≡◌, ℕ, ◌<◌, [], refl, sym, subst, arith}
 use Rattle.std.proofs.lemmas.List.Elements.{All-nil}
 use Rattle.rr_disk.specs.Crash.{Images, restarted}
-use Rattle.rr_image.specs.Image.{Found, Unformatted, found}
-use Rattle.rr_image.specs.Held.{StandsFor, Holds}
+use Rattle.rr_journal.specs.Image.{Found, Unformatted, found}
+use Rattle.rr_journal.specs.Held.{StandsFor, Holds}
 use Rattle.rr_journal.proofs.FormatLaws.{both_blank, short_blank}
 use Rattle.rr_node.specs.Runs.{StartsInStep}
 use Rattle.rr_node.proofs.InOrder.{rest_in_order}

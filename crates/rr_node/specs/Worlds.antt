@@ -18,8 +18,8 @@ use Rattle.rr_journal.specs.Flushes as gate
 use Rattle.rr_journal.specs.Moments.{body_due, body_out, body_safe, gate_set}
 use Rattle.rr_journal.specs.declared.journal.Journal.{Journal}
 use Rattle.rr_journal.specs.Calls.{Call, Write, Sync, frame_bytes}
-use Rattle.rr_image.specs.Image.{Found}
-use Rattle.rr_image.specs.Held.{Holds}
+use Rattle.rr_journal.specs.Image.{Found}
+use Rattle.rr_journal.specs.Held.{Holds}
 use Rattle.rr_journal.specs.Journals.{IsOver}
 use Rattle.rr_journal.specs.Openings as opening
 use Rattle.rr_journal.specs.OtherAreas.{other_area}

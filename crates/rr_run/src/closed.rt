@@ -1,12 +1,12 @@
 //! The lines that tell why the folders of a run aren't opened.
 
-ghost use Rattle.rr_image.specs.Image.{found};
+ghost use Rattle.rr_journal.specs.Image.{found};
 ghost use Rattle.rr_run.specs.Closings.{may_be_damaged, IsRefusalOf, IsClosedBy, IsRefusedFor};
 
 use rr_cli::{end_by_refusal, print_folder_fault};
 use rr_cluster::Fault;
 use rr_folders::{Closed, print_closed};
-use rr_image::read_image;
+use rr_journal::read_image;
 use rr_types::{NodeId, Nodes, Refusal};
 use std::alloc::Global;
 use std::io::Write;

@@ -21,7 +21,7 @@ use rr_explain::print_script_fault;
 use rr_folders::{
     Closed, Folders, Lockable, Locks, Survey, enter, read_only_disk, survey_folders, try_folder,
 };
-use rr_image::inspect;
+use rr_journal::inspect;
 use rr_locked::Open;
 use rr_script::{Answers, Script};
 use rr_stream::{FileReader, Sink, Source, read_all};

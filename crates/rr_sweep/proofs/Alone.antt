@@ -8,12 +8,12 @@ use Rattle.rr_disk.specs.declared.area.Area.{Area}
 use Rattle.rr_disk.specs.declared.area.Area.TheVariants.{First, Second}
 use Rattle.rr_disk.specs.Areas.{Areas, extent_of, read_of}
 use Rattle.rr_frame.specs.SnapshotFormat.{snapshot_bytes}
-use Rattle.rr_image.specs.Image.{Content, Found, Unformatted, Broken, Active, Outdated, found}
-use Rattle.rr_image.specs.Held.{StandsFor}
+use Rattle.rr_journal.specs.Image.{Content, Found, Unformatted, Broken, Active, Outdated, found}
+use Rattle.rr_journal.specs.Held.{StandsFor}
 use Rattle.rr_journal.specs.Calls.{after_call, must_close, rewrite_calls}
 use Rattle.rr_journal.specs.Openings as phase
 use Rattle.rr_journal.specs.Openings.{After, Goes, Stops, bytes_in, snapshot_with, migrate_calls, after_found, due_call}
-use Rattle.rr_image.specs.Migration.{migrated, may_migrate}
+use Rattle.rr_journal.specs.Migration.{migrated, may_migrate}
 use Rattle.rr_journal.specs.OtherAreas.{other_area}
 use Rattle.rr_journal.proofs.OpeningLaws.{read_at_rest}
 use Rattle.rr_types.specs.declared.event.NodeEvent.TheVariants.{Device, Restart}

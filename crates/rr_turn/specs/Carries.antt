@@ -8,7 +8,7 @@ use Rattle.rr_types.specs.Groups.{Grouped}
 use Rattle.rr_types.specs.Promises.{all_fit}
 use Rattle.rr_disk.specs.Areas.{Areas}
 use Rattle.rr_disk.specs.Crash.{Images, restarted}
-use Rattle.rr_image.specs.Held.{Holds}
+use Rattle.rr_journal.specs.Held.{Holds}
 use Rattle.rr_journal.specs.Flushes.{Kept}
 use Rattle.rr_journal.specs.Journals.{IsOver}
 use Rattle.rr_journal.specs.Moments.{EachHolds, EachHoldsEither}

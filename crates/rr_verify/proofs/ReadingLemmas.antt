@@ -2,7 +2,7 @@
 use Rattle.std.proofs.Common.{◌≡◌, ℕ, ◌-◌, ◌^◌, ◌<◌, ◌∙◌, List, length, ap, ap₂, arith}
 use Rattle.rr_disk.specs.Areas.{Areas, bytes_of, extent_of, read_of}
 use Rattle.rr_disk.specs.declared.area.Area.TheVariants.{First, Second}
-use Rattle.rr_image.proofs.ImageLaws.{read_whole}
+use Rattle.rr_journal.proofs.ImageLaws.{read_whole}
 use Rattle.rr_verify.specs.declared.folder.Reading.{Reading}
 use Rattle.rr_verify.specs.Folders.{reading_of}
 

@@ -4,10 +4,10 @@ use Rattle.rr_types.specs.declared.refusal.Refusal.TheVariants.{Damaged}
 use Rattle.rr_disk.specs.declared.area.Area.{Area}
 use Rattle.rr_frame.specs.declared.version.Version.{Version}
 use Rattle.rr_frame.specs.declared.version.Version.TheVariants.{One, Two}
-use Rattle.rr_image.specs.declared.inspection.AreaReport.{AreaReport}
-use Rattle.rr_image.specs.Ends.{area_number}
-use Rattle.rr_image.specs.Image.{Content, Found, Unformatted, Broken, Active, Outdated, found}
-use Rattle.rr_image.specs.Inspect.{Inspected, Tells, Breaks, inspected}
+use Rattle.rr_journal.specs.declared.inspection.AreaReport.{AreaReport}
+use Rattle.rr_journal.specs.Ends.{area_number}
+use Rattle.rr_journal.specs.Image.{Content, Found, Unformatted, Broken, Active, Outdated, found}
+use Rattle.rr_journal.specs.Inspect.{Inspected, Tells, Breaks, inspected}
 use Rattle.rr_verify.specs.declared.folder.Folder.{Folder}
 use Rattle.rr_verify.specs.declared.folder.Reading.{Reading}
 use Rattle.rr_verify.specs.declared.folder.Reading.TheVariants.{Facts, Blank, Refused}

@@ -3,13 +3,13 @@
 ghost use Rattle.std.specs.Prelude.{◌≡◌, ◌⊎◌, ◌^◌, ◌<◌, ℕ, List, length, IfOk};
 ghost use Rattle.rr_types.specs.declared.refusal.Refusal.TheVariants.{Device};
 ghost use Rattle.rr_disk.specs.Areas.{bytes_of};
-ghost use Rattle.rr_image.specs.Image.{found};
+ghost use Rattle.rr_journal.specs.Image.{found};
 ghost use Rattle.rr_verify.specs.Folders.{newer, holding, by_owner, reading_of};
 ghost use Rattle.rr_verify.specs.declared.folder.Reading.TheVariants.{Refused};
 
 use rr_disk::{Area, Disk};
 use rr_frame::Version;
-use rr_image::{AreaReport, Content, Image, inspect_bytes, read_image};
+use rr_journal::{AreaReport, Content, Image, inspect_bytes, read_image};
 use rr_types::{Command, NodeId, Nodes, Op, Promise, Refusal, Standing, made_of};
 use std::alloc::{AllocError, Global};
 

@@ -4,7 +4,7 @@ use super::expected::{assert_length, write};
 use super::samples::{area, behind, changed, cut, snapshot};
 use rr_disk::{Area, Disk, FailingDisk, MemDisk};
 use rr_frame::Version;
-use rr_image::{AreaReport, inspect, inspect_bytes};
+use rr_journal::{AreaReport, inspect, inspect_bytes};
 use rr_types::{NodeId, Nodes, Refusal};
 use std::alloc::Global;
 use std::process::Abort;

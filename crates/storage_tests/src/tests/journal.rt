@@ -6,8 +6,7 @@ use super::expected::{all, alone, assert_front, assert_length, assert_numbers, a
 use super::samples::{area, behind, changed, cut, put_at, snapshot};
 use rr_disk::{Area, Disk, FailingDisk, MemDisk};
 use rr_frame::{Version, decode_group};
-use rr_image::{Image, read_image};
-use rr_journal::{Journal, Opening, Progress};
+use rr_journal::{Image, Journal, Opening, Progress, read_image};
 use rr_types::{
     Command, Estimate, Fact, Group, Instance, Name, NodeId, Nodes, Op, Promise, Refusal, RequestNo,
     Round, Value,

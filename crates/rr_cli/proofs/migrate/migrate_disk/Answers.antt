@@ -4,7 +4,7 @@ use Rattle.std.specs.declared.alloc.Global.{Global}
 use Rattle.rr_types.specs.declared.refusal.Refusal.{Refusal}
 use Rattle.rr_types.specs.declared.refusal.Refusal.TheVariants.{OutOfMemory, Device}
 use Rattle.rr_disk.specs.Areas.{bytes_of}
-use Rattle.rr_image.specs.Inspect.{inspected}
+use Rattle.rr_journal.specs.Inspect.{inspected}
 use Rattle.rr_journal.specs.Openings.{Settling, Stops, end_by}
 use Rattle.rr_journal.specs.OpeningCourse.{found_from}
 use Rattle.rr_cli.specs.Areas.{IsShown}

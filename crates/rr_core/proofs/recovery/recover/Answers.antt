@@ -2,7 +2,7 @@ use Rattle.std.proofs.Common.{sym, subst}
 use Rattle.rr_journal.specs.declared.journal.Journal.{Journal}
 use Rattle.rr_journal.specs.declared.opened.Opened.{Opened}
 use Rattle.rr_journal.specs.CrashedDisks.{IsOpenWithOneOf, AddsSameAlone}
-use Rattle.rr_image.specs.Held.{Holds}
+use Rattle.rr_journal.specs.Held.{Holds}
 use Rattle.rr_journal.specs.OpeningTable.{IsKept}
 use Rattle.rr_journal.specs.OpenDisks.{IsOpenWith, IsReady}
 use Rattle.rr_core.proofs.KnowingLaws.{rests_so, so_many}

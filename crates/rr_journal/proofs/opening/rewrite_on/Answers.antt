@@ -1,7 +1,7 @@
 use Rattle.std.proofs.Common.{ap, sym, subst, ◌∙◌}
 use Rattle.rr_journal.specs.Rewrites.{Rewrite, IsRewriting}
 use Rattle.rr_journal.specs.Stages.{stage_behind}
-use Rattle.rr_image.specs.Held.{Holds}
+use Rattle.rr_journal.specs.Held.{Holds}
 use Rattle.rr_journal.proofs.OpeningLaws.{IsBehind, goes_behind, still_rewriting, active_anew}
 use Rattle.rr_journal.proofs.opening.rewrite_on.Goals as goal
 

@@ -2,10 +2,10 @@ use Rattle.std.proofs.Common.{◌≡◌, refl, sym, ap, subst, ◌∙◌, List, 
 use Rattle.std.proofs.lemmas.Result.{err_from_is_err_and}
 use Rattle.rr_frame.specs.declared.version.Version.TheVariants.{One, Two}
 use Rattle.rr_frame.specs.Snapshots.{IsSnapshot}
-use Rattle.rr_image.specs.declared.image.Image.{Image}
-use Rattle.rr_image.specs.Ends.{Finds}
-use Rattle.rr_image.specs.Held.{StandsFor, Holds}
-use Rattle.rr_image.specs.Image.{Content, Found, Unformatted, Outdated, found}
+use Rattle.rr_journal.specs.declared.image.Image.{Image}
+use Rattle.rr_journal.specs.Ends.{Finds}
+use Rattle.rr_journal.specs.Held.{StandsFor, Holds}
+use Rattle.rr_journal.specs.Image.{Content, Found, Unformatted, Outdated, found}
 use Rattle.rr_journal.specs.Calls.{must_close}
 use Rattle.rr_journal.specs.Moments.{image_of}
 use Rattle.rr_journal.specs.Openings.{snapshot_with, bytes_in}

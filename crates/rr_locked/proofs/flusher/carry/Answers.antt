@@ -1,5 +1,5 @@
 use Rattle.std.proofs.Common.{◌++◌, ℕ, ap, subst, sym}
-use Rattle.rr_image.specs.Held.{Holds}
+use Rattle.rr_journal.specs.Held.{Holds}
 use Rattle.rr_journal.specs.Flushes.{Flush}
 use Rattle.rr_journal.specs.Moments.{IsAt, EachHolds, EachHoldsEither, body_due, with_group}
 use Rattle.rr_journal.specs.Journals.{IsOver}

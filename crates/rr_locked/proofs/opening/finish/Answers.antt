@@ -1,6 +1,6 @@
 use Rattle.std.proofs.Common.{◌≡◌, ◌≤◌, ℕ, ◌+◌, inl, inr, Ok, Err, IfOk, refl, sym, ap, subst, ◌∙◌, arith}
 use Rattle.rr_types.specs.Counts.{counted}
-use Rattle.rr_image.specs.Held.{Holds}
+use Rattle.rr_journal.specs.Held.{Holds}
 use Rattle.rr_journal.specs.Phases.{phase_of}
 use Rattle.rr_journal.specs.Openings.{end_by}
 use Rattle.rr_journal.specs.OpeningCourse.{StaysOnCourse}

@@ -4,7 +4,7 @@ use Rattle.rr_journal.specs.declared.journal.Journal.{Journal}
 use Rattle.rr_journal.specs.OpeningStates.{OpeningState}
 use Rattle.rr_journal.specs.declared.opening.Progress.{Progress}
 use Rattle.rr_journal.specs.declared.opening.Progress.TheVariants.{More, Done}
-use Rattle.rr_image.specs.Held.{Holds}
+use Rattle.rr_journal.specs.Held.{Holds}
 use Rattle.rr_journal.specs.Fronts.{KnowsOther}
 use Rattle.rr_journal.specs.OpeningSteps.{Steps, MaySnap}
 use Rattle.rr_journal.specs.OpeningTable.{OpensWith, ComesToAny, IsKept, disk_after}

@@ -1,6 +1,6 @@
 use Rattle.std.proofs.Common.{◌≡◌, ◌⊎◌, ℕ, ◌+◌, List, length, ◌∙◌, ap, subst}
 use Rattle.rr_disk.specs.Areas.{Torn, extent_of, replaced, written}
-use Rattle.rr_image.specs.Held.{Holds}
+use Rattle.rr_journal.specs.Held.{Holds}
 use Rattle.rr_journal.specs.Flushes.{Flush}
 use Rattle.rr_journal.proofs.Table.{due_holds, out_holds, to_out, body_refused}
 use Rattle.rr_journal.proofs.job.Job+Body.step.Goals as goal

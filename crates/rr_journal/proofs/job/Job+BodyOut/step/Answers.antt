@@ -1,4 +1,4 @@
-use Rattle.rr_image.specs.Held.{Holds}
+use Rattle.rr_journal.specs.Held.{Holds}
 use Rattle.rr_journal.proofs.Table.{out_holds, safe_holds, to_safe, same_holds}
 use Rattle.rr_journal.proofs.job.Job+BodyOut.step.Goals as goal
 

@@ -1,6 +1,6 @@
 use Rattle.std.proofs.Common.{◌≡◌, ◌⊎◌, [], ◌∷◌, ◌∙◌, ap, subst}
 use Rattle.rr_disk.specs.Areas.{Torn, extent_of, replaced, written}
-use Rattle.rr_image.specs.Held.{Holds}
+use Rattle.rr_journal.specs.Held.{Holds}
 use Rattle.rr_journal.specs.Flushes.{Flush}
 use Rattle.rr_journal.proofs.Table.{safe_holds, set_holds, to_set, gate_refused}
 use Rattle.rr_journal.proofs.job.Job+BodySafe.step.Goals as goal

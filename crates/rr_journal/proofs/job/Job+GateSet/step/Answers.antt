@@ -1,5 +1,5 @@
 use Rattle.std.proofs.Common.{◌≡◌, ◌∙◌, ap}
-use Rattle.rr_image.specs.Held.{Holds}
+use Rattle.rr_journal.specs.Held.{Holds}
 use Rattle.rr_journal.specs.declared.journal.Journal.{Journal}
 use Rattle.rr_journal.proofs.Table.{set_holds, group_holds, to_group, same_either}
 use Rattle.rr_journal.proofs.job.Job+GateSet.step.Goals as goal

@@ -4,7 +4,7 @@ use Rattle.rr_frame.specs.GroupFormat.{group_bytes}
 use Rattle.rr_journal.specs.Flushes.{Flush}
 use Rattle.rr_journal.specs.Moments.{IsAt, body_due, with_group}
 use Rattle.rr_journal.specs.Calls.{frame_bytes}
-use Rattle.rr_image.specs.Held.{Holds}
+use Rattle.rr_journal.specs.Held.{Holds}
 use Rattle.rr_journal.specs.Journals.{IsOver, once_flushed}
 use Rattle.rr_journal.proofs.FlushLaws.{grounded, over_after}
 use Rattle.rr_journal.proofs.journal.Journal.begin.Goals as goal

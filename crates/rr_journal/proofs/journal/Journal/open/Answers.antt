@@ -2,7 +2,7 @@ use Rattle.std.proofs.Common.{◌≡◌, ◌⊎◌, ℕ, ◌+◌, ◌≤◌, Lis
 use Rattle.std.specs.Prelude.{IfOk, IfErr, OnOk}
 use Rattle.rr_types.specs.declared.fact.Fact.{Fact}
 use Rattle.rr_types.specs.declared.refusal.Refusal.TheVariants.{OutOfMemory, Device}
-use Rattle.rr_image.specs.Held.{Holds}
+use Rattle.rr_journal.specs.Held.{Holds}
 use Rattle.rr_journal.specs.Openings.{Phase}
 use Rattle.rr_journal.specs.OpeningCourse.{found_from, calls_from, IsAsBefore, IsDone}
 use Rattle.rr_journal.specs.OpeningTable.{contents, OpensAny, OpensWith, IsKept}

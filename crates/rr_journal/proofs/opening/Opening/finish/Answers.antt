@@ -1,6 +1,6 @@
 use Rattle.std.proofs.Common.{◌≡◌, ◌≤◌, ℕ, ◌+◌, inl, Ok, refl, sym, ap, subst, ◌∙◌, arith}
 use Rattle.rr_journal.specs.declared.opening.Progress.{Progress}
-use Rattle.rr_image.specs.Held.{Holds}
+use Rattle.rr_journal.specs.Held.{Holds}
 use Rattle.rr_journal.specs.Phases.{phase_of}
 use Rattle.rr_types.specs.Counts.{counted}
 use Rattle.rr_journal.specs.Openings.{end_by}

@@ -1,5 +1,5 @@
 use Rattle.std.proofs.Common.{refl}
-use Rattle.rr_image.specs.Image.{Unformatted}
+use Rattle.rr_journal.specs.Image.{Unformatted}
 use Rattle.rr_journal.specs.Stages.{first_stage}
 use Rattle.rr_journal.proofs.RewriteLaws.{sized_anew}
 use Rattle.rr_journal.proofs.rewrite.Rewrite.formatting.Goals as goal

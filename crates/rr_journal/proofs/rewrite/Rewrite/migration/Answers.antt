@@ -1,10 +1,10 @@
 use Rattle.std.proofs.Common.{◌≡◌, ◌+◌, ap, subst, sym, ◌∙◌, arith, true}
 use Rattle.std.proofs.lemmas.Result.{err_from_is_err_and}
 use Rattle.rr_frame.specs.Snapshots.{Snapped}
-use Rattle.rr_image.specs.Image.{Content, Outdated}
+use Rattle.rr_journal.specs.Image.{Content, Outdated}
 use Rattle.rr_journal.specs.Calls.{frame_bytes}
 use Rattle.rr_journal.specs.Openings.{snapshot_with}
-use Rattle.rr_image.specs.Migration.{migrated, may_migrate}
+use Rattle.rr_journal.specs.Migration.{migrated, may_migrate}
 use Rattle.rr_journal.specs.Rewrites.{IsSized}
 use Rattle.rr_journal.specs.Stages.{first_stage}
 use Rattle.rr_frame.specs.SnapshotFormat.{snapshot_bytes}

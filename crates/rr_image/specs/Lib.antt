@@ -1,7 +1,0 @@
-pub mod Choices
-pub mod Ends
-pub mod Entries
-pub mod Held
-pub mod Image
-pub mod Inspect
-pub mod Migration
