@@ -146,7 +146,7 @@ pub fn show_texts(rt: &HostRuntime) {
     print(rt, "rr_text", text::count_events(alloc, OPENING).ok());
     print(
         rt,
-        "rr_tape",
+        "rr_text",
         tape::count_events(alloc, b"nodes 1\ntick 0\n").ok(),
     );
     let mut line = Vec::new(alloc);

@@ -1,6 +1,6 @@
-//! What the first page of `rr_tape` shows.
+//! What the first page of `rr_text` shows.
 
-use rr_tape::Tape;
+use rr_text::Tape;
 use rr_types::Refusal;
 use std::alloc::Global;
 

@@ -3,10 +3,10 @@ use Rattle.std.proofs.Common.{ℕ, ◌≤◌, List, [], ◌∷◌, map, subst, s
 use Rattle.std.specs.List.{AllByRecursion}
 use Rattle.std.proofs.lemmas.List.{length-map}
 use Rattle.rr_text.specs.Scheduled.{IsInRange, IsEvent, IsSchedule}
-use Rattle.rr_tape.specs.declared.tape_event.TapeEvent.{TapeEvent}
-use Rattle.rr_tape.specs.declared.tape_event.Recorded.{Recorded}
-use Rattle.rr_tape.specs.declared.tape_event.Recorded.TheVariants.{Told, Take, Mark, Sent, Acked}
-use Rattle.rr_tape.specs.Taped.{Taped, of_node, IsRecorded, IsTapeEvent, IsTape}
+use Rattle.rr_text.specs.declared.tape_event.TapeEvent.{TapeEvent}
+use Rattle.rr_text.specs.declared.tape_event.Recorded.{Recorded}
+use Rattle.rr_text.specs.declared.tape_event.Recorded.TheVariants.{Told, Take, Mark, Sent, Acked}
+use Rattle.rr_text.specs.Taped.{Taped, of_node, IsRecorded, IsTapeEvent, IsTape}
 use Rattle.rr_audit.specs.Rows.{as_scheduled}
 
 event_is : (n : ℕ) (e : TapeEvent) → IsTapeEvent n e → IsEvent n (as_scheduled e)

@@ -4,8 +4,8 @@ use Rattle.std.specs.List.{flat_map}
 use Rattle.std.specs.Option.{option_map_or}
 use Rattle.rr_model.specs.Sound.{IsDecidedList}
 use Rattle.rr_text.specs.declared.report.ReportLine.{ReportLine}
-use Rattle.rr_tape.specs.declared.tape_event.TapeEvent.{TapeEvent}
-use Rattle.rr_tape.specs.Taped.{Taped}
+use Rattle.rr_text.specs.declared.tape_event.TapeEvent.{TapeEvent}
+use Rattle.rr_text.specs.Taped.{Taped}
 use Rattle.rr_audit.specs.Audits.{sent_by}
 use Rattle.rr_audit.specs.Rows.{as_scheduled, as_reported}
 use Rattle.rr_account.specs.declared.outcome.Outcome.{Outcome}

@@ -10,8 +10,7 @@ use crate::account::Account;
 use crate::outcome::Outcome;
 use rr_audit::{as_reported, as_scheduled};
 use rr_sim::decided_list;
-use rr_tape::{Recorded, Tape, TapeEvent};
-use rr_text::{Event, Report, ReportLine, Schedule};
+use rr_text::{Event, Recorded, Report, ReportLine, Schedule, Tape, TapeEvent};
 use rr_types::{Body, Command, Estimate, Message, Op, Refusal, made_of};
 use std::alloc::{AllocError, Global};
 

@@ -28,10 +28,10 @@ use Rattle.rr_model.proofs.Laws.{after_steps-append}
 use Rattle.rr_model.proofs.NodeInWorld.{reached_in_world, reached_marks, settles_in_world}
 use Rattle.rr_model.proofs.NodeReached.{reached_still}
 use Rattle.rr_model.proofs.NodeRounds.{reached_names_rounds, reached_may_leave}
-use Rattle.rr_tape.specs.declared.tape_event.TapeEvent.{TapeEvent}
-use Rattle.rr_tape.specs.declared.tape_event.Recorded.{Recorded}
-use Rattle.rr_tape.specs.declared.tape_event.Recorded.TheVariants as tape
-use Rattle.rr_tape.specs.Taped.{of_node}
+use Rattle.rr_text.specs.declared.tape_event.TapeEvent.{TapeEvent}
+use Rattle.rr_text.specs.declared.tape_event.Recorded.{Recorded}
+use Rattle.rr_text.specs.declared.tape_event.Recorded.TheVariants as tape
+use Rattle.rr_text.specs.Taped.{of_node}
 use Rattle.rr_audit.specs.Audits.{Replay, IsNextOf, IsNextAt, IsNext, sent_by, told_by, submitted_by, replayed}
 
 -- ---- lists

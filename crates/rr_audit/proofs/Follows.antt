@@ -18,9 +18,9 @@ use Rattle.rr_types.specs.declared.input.Input.TheVariants as node
 use Rattle.rr_types.specs.declared.input.Input.{Input}
 use Rattle.rr_model.specs.NodeStep.{node_step, refusal_of, running_group, marked_running, restored, started}
 use Rattle.rr_model.proofs.NodeSteady.{input_stays, started_stays}
-use Rattle.rr_tape.specs.declared.tape_event.TapeEvent.{TapeEvent}
-use Rattle.rr_tape.specs.declared.tape_event.Recorded.TheVariants as tape
-use Rattle.rr_tape.specs.Taped.{of_node}
+use Rattle.rr_text.specs.declared.tape_event.TapeEvent.{TapeEvent}
+use Rattle.rr_text.specs.declared.tape_event.Recorded.TheVariants as tape
+use Rattle.rr_text.specs.Taped.{of_node}
 use Rattle.rr_audit.specs.declared.given.Given.{Given}
 use Rattle.rr_audit.specs.Audits.{IsNextAt}
 use Rattle.rr_audit.specs.Following.{Answers, FollowsAt}

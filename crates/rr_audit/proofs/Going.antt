@@ -7,7 +7,7 @@ use Rattle.rr_model.specs.NodeLaws.{after_event}
 use Rattle.rr_model.specs.NodeState.{NodeState}
 use Rattle.rr_model.specs.NodeWorld.{steps_of_event}
 use Rattle.rr_model.specs.World.{Step}
-use Rattle.rr_tape.specs.declared.tape_event.TapeEvent.{TapeEvent}
+use Rattle.rr_text.specs.declared.tape_event.TapeEvent.{TapeEvent}
 use Rattle.rr_audit.specs.declared.given.Given.{Given}
 use Rattle.rr_audit.specs.Audits.{Replay, new_replay, sent_by, IsNextAt, IsNext, replayed, Leads, IsTapeRun, AgreesWithOneList, StopsAt}
 use Rattle.rr_audit.specs.Following.{FollowsAt, Steps}

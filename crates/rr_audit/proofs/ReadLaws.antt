@@ -7,9 +7,9 @@ use Rattle.rr_types.specs.declared.refusal.Refusal.{Refusal}
 use Rattle.rr_types.specs.declared.refusal.Refusal.TheVariants as because
 use Rattle.rr_text.specs.Lines.{nodes_line, HasNoLine, IsStop}
 use Rattle.rr_text.proofs.LineReading.{SoFar, so_far_none, so_far_on, so_far_all, so_far_stop}
-use Rattle.rr_tape.specs.declared.tape_event.TapeEvent.{TapeEvent}
-use Rattle.rr_tape.specs.Taped.{Taped, IsTapeEvent}
-use Rattle.rr_tape.specs.TapeTexts.{tape_line}
+use Rattle.rr_text.specs.declared.tape_event.TapeEvent.{TapeEvent}
+use Rattle.rr_text.specs.Taped.{Taped, IsTapeEvent}
+use Rattle.rr_text.specs.TapeTexts.{tape_line}
 use Rattle.rr_audit.specs.declared.auditing.Verdict.{Verdict}
 use Rattle.rr_audit.specs.declared.given.Given.{Given}
 use Rattle.rr_audit.specs.declared.progress.Progress.{Progress}

@@ -26,11 +26,11 @@ use Rattle.rr_model.proofs.NodeFollows.{run_on}
 use Rattle.rr_model.proofs.NodeRestarts.{restarts_in_world}
 use Rattle.rr_model.proofs.Places.{place_of, Contains-split}
 use Rattle.rr_model.proofs.Soundness.{sound}
-use Rattle.rr_tape.specs.declared.tape_event.TapeEvent.{TapeEvent}
-use Rattle.rr_tape.specs.declared.tape_event.Recorded.{Recorded}
-use Rattle.rr_tape.specs.declared.tape_event.Recorded.TheVariants as tape
+use Rattle.rr_text.specs.declared.tape_event.TapeEvent.{TapeEvent}
+use Rattle.rr_text.specs.declared.tape_event.Recorded.{Recorded}
+use Rattle.rr_text.specs.declared.tape_event.Recorded.TheVariants as tape
 use Rattle.rr_types.specs.declared.input.Input.TheVariants as input
-use Rattle.rr_tape.specs.Taped.{of_node}
+use Rattle.rr_text.specs.Taped.{of_node}
 use Rattle.rr_audit.specs.Audits.{Replay, new_replay, IsNext, sent_by, told_by, submitted_by, replayed, Leads, openings, IsTapeRun, submits, sends, acks, AgreesWithOneList}
 use Rattle.rr_audit.proofs.Alike.{IsThere, IsProper, IsAlike, Took, takes}
 

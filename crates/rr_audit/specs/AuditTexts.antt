@@ -1,7 +1,7 @@
 -- What an audit finds of bytes.
 use Rattle.std.specs.Prelude.{◌≡◌, ℕ, List}
-use Rattle.rr_tape.specs.Taped.{Taped, IsTape}
-use Rattle.rr_tape.specs.TapeTexts.{tape_text}
+use Rattle.rr_text.specs.Taped.{Taped, IsTape}
+use Rattle.rr_text.specs.TapeTexts.{tape_text}
 use Rattle.rr_audit.specs.Audits.{IsVerdict}
 use Rattle.rr_audit.specs.declared.auditing.Verdict.{Verdict}
 

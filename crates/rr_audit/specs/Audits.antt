@@ -17,10 +17,10 @@ use Rattle.rr_model.specs.NodeWorld.{steps_of_event}
 use Rattle.rr_model.specs.Sound.{IsDecidedList, IsSound}
 use Rattle.rr_model.specs.World as world
 use Rattle.rr_model.specs.World.{Step, Restart, Sent, Acknowledged, IsRun, end_of}
-use Rattle.rr_tape.specs.declared.tape_event.TapeEvent.{TapeEvent}
-use Rattle.rr_tape.specs.declared.tape_event.Recorded.{Recorded}
-use Rattle.rr_tape.specs.declared.tape_event.Recorded.TheVariants as tape
-use Rattle.rr_tape.specs.Taped.{of_node}
+use Rattle.rr_text.specs.declared.tape_event.TapeEvent.{TapeEvent}
+use Rattle.rr_text.specs.declared.tape_event.Recorded.{Recorded}
+use Rattle.rr_text.specs.declared.tape_event.Recorded.TheVariants as tape
+use Rattle.rr_text.specs.Taped.{of_node}
 use Rattle.rr_audit.specs.declared.auditing.Verdict.{Verdict}
 use Rattle.rr_audit.specs.declared.auditing.Verdict.TheVariants.{Yes, No}
 

@@ -5,7 +5,7 @@ use Rattle.rr_types.specs.declared.refusal.Refusal.{Refusal}
 use Rattle.rr_types.specs.declared.refusal.Refusal.TheVariants.{OutOfMemory}
 use Rattle.rr_model.specs.NodeLaws.{StateEvent, after_event}
 use Rattle.rr_model.specs.NodeState.{NodeState}
-use Rattle.rr_tape.specs.declared.tape_event.TapeEvent.{TapeEvent}
+use Rattle.rr_text.specs.declared.tape_event.TapeEvent.{TapeEvent}
 use Rattle.rr_audit.specs.declared.given.Given.{Given}
 use Rattle.rr_model.specs.World.{Step}
 use Rattle.rr_audit.specs.declared.progress.Progress.{Progress}

@@ -6,9 +6,9 @@ use Rattle.rr_types.specs.declared.event.NodeEvent.{NodeEvent}
 use Rattle.rr_types.specs.declared.event.NodeEvent.TheVariants as events
 use Rattle.rr_text.specs.declared.report.ReportLine.{ReportLine}
 use Rattle.rr_text.specs.declared.report.ReportLine.TheVariants as reports
-use Rattle.rr_tape.specs.declared.tape_event.TapeEvent.{TapeEvent}
-use Rattle.rr_tape.specs.declared.tape_event.Recorded.{Recorded}
-use Rattle.rr_tape.specs.declared.tape_event.Recorded.TheVariants as tape
+use Rattle.rr_text.specs.declared.tape_event.TapeEvent.{TapeEvent}
+use Rattle.rr_text.specs.declared.tape_event.Recorded.{Recorded}
+use Rattle.rr_text.specs.declared.tape_event.Recorded.TheVariants as tape
 
 -- what happens at a node, without what was sent or acknowledged
 abbrev pub happens_by : Recorded → NodeEvent ℕ

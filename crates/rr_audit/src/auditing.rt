@@ -6,7 +6,7 @@ ghost use Rattle.rr_audit.specs.Audits.{IsTapeRun, AgreesWithOneList, StopsAt, I
 use crate::given::Given;
 use crate::progress::Progress;
 use rr_stream::{Sink, tell_step};
-use rr_tape::Tape;
+use rr_text::Tape;
 use rr_types::{Body, Command, Message, NodeId, Op, Refusal, made_of};
 use std::alloc::Global;
 

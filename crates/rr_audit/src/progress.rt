@@ -1,14 +1,14 @@
 //! An audit under way, event by event.
 
 ghost use Rattle.std.specs.Prelude.{◌≡◌, ◌+◌, ◌∷◌, ◌++◌, [], ℕ, List, length, OnOk, IfOk, IfErr};
-ghost use Rattle.rr_tape.specs.declared.tape_event.TapeEvent.{TapeEvent};
+ghost use Rattle.rr_text.specs.declared.tape_event.TapeEvent.{TapeEvent};
 ghost use Rattle.rr_audit.specs.Audits.{IsVerdict};
 ghost use Rattle.rr_audit.specs.Following.{IsUnderWay};
 
 use crate::auditing::Verdict;
 use crate::given::Given;
 use crate::replay::Replay;
-use rr_tape::TapeEvent;
+use rr_text::TapeEvent;
 use rr_types::{NodeId, Nodes, Refusal};
 use std::alloc::{AllocError, Global};
 

@@ -2,14 +2,14 @@
 
 ghost use Rattle.std.specs.Prelude.{◌≡◌, ◌≤◌, ◌++◌, IfOk, IfErr};
 ghost use Rattle.rr_text.specs.Lines.{nodes_line, IsStop, IsFault};
-ghost use Rattle.rr_tape.specs.Taped.{IsTapeEvent};
-ghost use Rattle.rr_tape.specs.TapeTexts.{tape_line};
+ghost use Rattle.rr_text.specs.Taped.{IsTapeEvent};
+ghost use Rattle.rr_text.specs.TapeTexts.{tape_line};
 ghost use Rattle.rr_audit.specs.AuditTexts.{IsVerdictOn};
 
 use crate::auditing::Verdict;
 use crate::progress::Progress;
 use rr_stream::{Sink, tell_step};
-use rr_tape::next_tape_event;
+use rr_text::next_tape_event;
 use rr_text::text_parse::first_line;
 use rr_types::{Nodes, Refusal};
 use std::alloc::Global;

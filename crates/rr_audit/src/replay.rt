@@ -9,7 +9,7 @@ ghost use Rattle.rr_audit.specs.Following.{Steps};
 use crate::given::Given;
 use crate::replay_node::ReplayNode;
 use rr_frame::MessageLog;
-use rr_tape::{Recorded, TapeEvent};
+use rr_text::{Recorded, TapeEvent};
 use rr_types::{NodeId, Nodes, Refusal};
 use std::alloc::{AllocError, Global};
 use std::marker::Model;

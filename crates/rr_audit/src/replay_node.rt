@@ -4,7 +4,7 @@ ghost use Rattle.std.specs.Prelude.{◌≡◌, ◌≢◌, [], length, IfOk, IfEr
 ghost use Rattle.rr_model.specs.NodeState.{decided_prefix};
 ghost use Rattle.rr_model.specs.NodeStep.{node_step, refusal_of, group_taken, running_group, marked_running, message_left, next_leaving, next_acknowledged, acknowledged, started};
 ghost use Rattle.rr_types.specs.Registry.{reply_of};
-ghost use Rattle.rr_tape.specs.Taped.{of_node};
+ghost use Rattle.rr_text.specs.Taped.{of_node};
 ghost use Rattle.rr_audit.specs.Following.{Tells, Answers, FollowsAt};
 
 use crate::given::Given;
@@ -12,7 +12,7 @@ use crate::paper::{opened, synced};
 use crate::same::is_same_message;
 use rr_core::Core;
 use rr_frame::MessageLog;
-use rr_tape::{Recorded, TapeEvent};
+use rr_text::{Recorded, TapeEvent};
 use rr_types::{Group, Input, Message, NodeId, Nodes, Refusal, Reply, RequestNo};
 use std::alloc::{AllocError, Global};
 use std::marker::Model;

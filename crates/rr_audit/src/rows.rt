@@ -3,8 +3,7 @@
 ghost use Rattle.std.specs.Prelude.{◌≡◌};
 ghost use Rattle.rr_audit.specs.Rows.{as_scheduled, as_reported};
 
-use rr_tape::{Recorded, TapeEvent};
-use rr_text::{Event, ReportLine};
+use rr_text::{Event, Recorded, ReportLine, TapeEvent};
 use rr_types::NodeEvent;
 
 /// The event of a schedule that an event of a tape is. A tape also has what was sent or acknowledged, which a schedule leaves out.

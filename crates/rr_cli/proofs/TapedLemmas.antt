@@ -5,8 +5,8 @@ use Rattle.rr_types.specs.declared.refusal.Refusal.TheVariants as because
 use Rattle.rr_text.specs.Lines.{IsFault}
 use Rattle.rr_text.specs.Scheduled.{Scheduled, IsSchedule, IsEvent}
 use Rattle.rr_text.specs.ScheduleTexts.{schedule_text, event_line}
-use Rattle.rr_tape.specs.Taped.{Taped, IsTape, IsTapeEvent}
-use Rattle.rr_tape.specs.TapeTexts.{tape_text, tape_line}
+use Rattle.rr_text.specs.Taped.{Taped, IsTape, IsTapeEvent}
+use Rattle.rr_text.specs.TapeTexts.{tape_text, tape_line}
 use Rattle.rr_audit.specs.Audits.{IsVerdict}
 use Rattle.rr_audit.specs.declared.given.Given.{Given}
 use Rattle.rr_audit.specs.declared.auditing.Verdict.TheVariants.{Yes, No}

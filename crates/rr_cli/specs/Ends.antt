@@ -11,8 +11,8 @@ use Rattle.rr_text.specs.declared.event.Event.{Event}
 use Rattle.rr_text.specs.Scheduled.{Scheduled, IsSchedule, IsEvent}
 use Rattle.rr_text.specs.ScheduleTexts.{schedule_text, event_line}
 use Rattle.rr_text.specs.ReportTexts.{line}
-use Rattle.rr_tape.specs.Taped.{Taped, IsTape, IsTapeEvent}
-use Rattle.rr_tape.specs.TapeTexts.{tape_text, tape_line}
+use Rattle.rr_text.specs.Taped.{Taped, IsTape, IsTapeEvent}
+use Rattle.rr_text.specs.TapeTexts.{tape_text, tape_line}
 use Rattle.rr_audit.specs.Audits as tapes
 use Rattle.rr_audit.specs.Audits.{IsTapeRun, StopsAt}
 use Rattle.rr_sim.specs.Told.{IsReportOn}

@@ -5,8 +5,8 @@ use Rattle.rr_types.specs.declared.refusal.Refusal.TheVariants.{OutOfMemory}
 use Rattle.rr_text.specs.Lines.{IsFault}
 use Rattle.rr_text.specs.Scheduled.{Scheduled, IsSchedule, IsEvent}
 use Rattle.rr_text.specs.ScheduleTexts.{schedule_text, event_line}
-use Rattle.rr_tape.specs.Taped.{Taped, IsTape, IsTapeEvent}
-use Rattle.rr_tape.specs.TapeTexts.{tape_text, tape_line}
+use Rattle.rr_text.specs.Taped.{Taped, IsTape, IsTapeEvent}
+use Rattle.rr_text.specs.TapeTexts.{tape_text, tape_line}
 use Rattle.rr_cli.specs.Refusals.{status_of}
 use Rattle.rr_cli.specs.declared.recognising.Recognised.{Recognised}
 use Rattle.rr_cli.specs.declared.recognising.Recognised.TheVariants as are

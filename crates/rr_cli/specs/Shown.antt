@@ -1,7 +1,7 @@
 -- What texts show of a run or of a tape.
 use Rattle.std.specs.Prelude.{◌≡◌, ℕ, Bool, true, false, List}
 use Rattle.rr_json.specs.Objects.{report_objects}
-use Rattle.rr_tape.specs.Taped.{Taped}
+use Rattle.rr_text.specs.Taped.{Taped}
 use Rattle.rr_account.specs.Accounts.{Accounted}
 use Rattle.rr_account.specs.Objects.{IsExplanation, IsStatistics}
 use Rattle.rr_account.specs.TapeAccounts.{IsTapeAccount}

@@ -3,8 +3,8 @@
 ghost use Rattle.std.specs.Prelude.{◌≡◌, ◌≤◌, ◌⊎◌, IfOk, IfErr, string_bytes};
 ghost use Rattle.std.specs.Io.KnownBytes.{Keeps};
 ghost use Rattle.rr_text.specs.Lines.{IsFault};
-ghost use Rattle.rr_tape.specs.Taped.{IsTapeEvent};
-ghost use Rattle.rr_tape.specs.TapeTexts.{tape_line};
+ghost use Rattle.rr_text.specs.Taped.{IsTapeEvent};
+ghost use Rattle.rr_text.specs.TapeTexts.{tape_line};
 ghost use Rattle.rr_audit.specs.AuditTexts.{IsVerdictOn};
 ghost use Rattle.rr_cli.specs.Tapes.{yes_text};
 ghost use Rattle.rr_stream.specs.Files.{file_at};

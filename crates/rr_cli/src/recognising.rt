@@ -4,13 +4,12 @@ ghost use Rattle.std.specs.Prelude.{◌≡◌, ◌≢◌, Ok};
 ghost use Rattle.rr_text.specs.Lines.{IsFault};
 ghost use Rattle.rr_text.specs.Scheduled.{IsEvent};
 ghost use Rattle.rr_text.specs.ScheduleTexts.{event_line};
-ghost use Rattle.rr_tape.specs.Taped.{IsTapeEvent};
-ghost use Rattle.rr_tape.specs.TapeTexts.{tape_line};
+ghost use Rattle.rr_text.specs.Taped.{IsTapeEvent};
+ghost use Rattle.rr_text.specs.TapeTexts.{tape_line};
 ghost use Rattle.rr_cli.specs.Recognised.{IsRecognised};
 
 use crate::refusals::TextKind;
-use rr_tape::Tape;
-use rr_text::Schedule;
+use rr_text::{Schedule, Tape};
 use rr_types::Refusal;
 use std::alloc::Global;
 

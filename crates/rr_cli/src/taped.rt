@@ -18,7 +18,7 @@ use rr_audit::{Verdict, watch_tape};
 use rr_draw::{Cut, tape_picture};
 use rr_page::tape_page;
 use rr_stream::Sink;
-use rr_tape::Tape;
+use rr_text::Tape;
 use rr_types::Refusal;
 use std::alloc::Global;
 use std::io::Write;

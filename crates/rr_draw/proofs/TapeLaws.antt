@@ -3,7 +3,7 @@ use Rattle.std.proofs.Common.{◌≡◌, ℕ, ◌+◌, List, [], ◌∷◌, ◌+
 use Rattle.std.specs.List.{flat_map}
 use Rattle.std.proofs.lemmas.List.{append-nil}
 use Rattle.rr_types.specs.declared.message.Message.{Message}
-use Rattle.rr_tape.specs.declared.tape_event.TapeEvent.{TapeEvent}
+use Rattle.rr_text.specs.declared.tape_event.TapeEvent.{TapeEvent}
 use Rattle.rr_audit.specs.Audits.{sent_by}
 use Rattle.rr_sim.proofs.ToldLaws.{lines_push}
 use Rattle.rr_draw.specs.declared.cut.Cut.{Cut}

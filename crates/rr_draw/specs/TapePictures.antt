@@ -2,8 +2,8 @@
 use Rattle.std.specs.Prelude.{◌≡◌, ℕ, List, [], ◌∷◌, ◌++◌, Option, None, Some}
 use Rattle.rr_types.specs.declared.message.Message.{Message}
 use Rattle.rr_text.specs.declared.report.ReportLine.{ReportLine}
-use Rattle.rr_tape.specs.declared.tape_event.TapeEvent.{TapeEvent}
-use Rattle.rr_tape.specs.Taped.{Taped}
+use Rattle.rr_text.specs.declared.tape_event.TapeEvent.{TapeEvent}
+use Rattle.rr_text.specs.Taped.{Taped}
 use Rattle.rr_audit.specs.Audits.{sent_by}
 use Rattle.rr_audit.specs.Rows.{as_scheduled, as_reported}
 use Rattle.rr_draw.specs.declared.cut.Cut.{Cut}

@@ -12,9 +12,8 @@ use crate::fate::Heard;
 use crate::picture::{Picture, draw_event, has_many, written};
 use crate::scene::tape_scene;
 use rr_audit::{Replay, as_reported, as_scheduled};
-use rr_tape::{Recorded, Tape, TapeEvent};
-use rr_text::ReportLine;
 use rr_text::text_word::push_bytes;
+use rr_text::{Recorded, ReportLine, Tape, TapeEvent};
 use rr_types::{Body, Command, Estimate, Message, Op, Refusal, made_of};
 use std::alloc::{AllocError, Global};
 

@@ -1,7 +1,7 @@
 -- Tapes that grow.
 use Rattle.std.proofs.Common.{◌≤◌, length}
 use Rattle.std.proofs.lemmas.List.Sums.{count_by-le-length}
-use Rattle.rr_tape.specs.Taped.{Taped}
+use Rattle.rr_text.specs.Taped.{Taped}
 use Rattle.rr_locked.specs.Recorded.{is_send, sent_on}
 
 -- a tape has at least as many events as messages

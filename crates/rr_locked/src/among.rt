@@ -1,11 +1,10 @@
 //! Whether an event is of these nodes. All else that the grammar of tapes asks of an event is kept by its types.
 
 ghost use Rattle.std.specs.Prelude.{◌≡◌, ◌↔◌, ◌<◌, ◌^◌, IsTrue};
-ghost use Rattle.rr_tape.specs.Taped.{IsInstance, IsRound, IsEstimate, IsBody, IsMessage, IsRequest, IsReply, IsRecorded, IsTapeEvent};
+ghost use Rattle.rr_text.specs.Taped.{IsInstance, IsRound, IsEstimate, IsBody, IsMessage, IsRequest, IsReply, IsRecorded, IsTapeEvent};
 ghost use Rattle.rr_text.specs.Scheduled.{IsInput};
 
-use rr_tape::{Recorded, TapeEvent};
-use rr_text::command_law;
+use rr_text::{Recorded, TapeEvent, command_law};
 use rr_types::{
     Body, Command, Estimate, Input, Instance, Message, NodeId, NodeSet, Nodes, Op, Reply,
     RequestNo, Round, made_of,

@@ -9,15 +9,15 @@ ghost use Rattle.rr_model.specs.NodeStep.{node_step, refusal_of, group_taken, ru
 ghost use Rattle.rr_types.specs.declared.input.Input.TheVariants as told;
 ghost use Rattle.rr_types.specs.Inputs.{HearsNothing};
 ghost use Rattle.rr_types.specs.Registry.{reply_of};
-ghost use Rattle.rr_tape.specs.declared.tape_event.Recorded.TheVariants as tape;
-ghost use Rattle.rr_tape.specs.Taped.{of_node};
+ghost use Rattle.rr_text.specs.declared.tape_event.Recorded.TheVariants as tape;
+ghost use Rattle.rr_text.specs.Taped.{of_node};
 ghost use Rattle.rr_locked.specs.Recorded.{numbered, event_of, sent_on, with_event, HasNoPlace};
 
 use crate::locked::Locked;
 use crate::recording::Recording;
 use crate::sent::Sent;
 use rr_journal::Synced;
-use rr_tape::{Recorded, TapeEvent};
+use rr_text::{Recorded, TapeEvent};
 use rr_types::{
     Body, Command, Estimate, Group, Input, Message, NodeId, Op, Refusal, Reply, RequestNo, made_of,
 };

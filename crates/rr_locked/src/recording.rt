@@ -4,8 +4,7 @@ ghost use Rattle.std.specs.Prelude.{◌≡◌, ◌≤◌, [], length, OnOk, OnEr
 ghost use Rattle.rr_locked.specs.Recorded.{sent_on, with_event, HasNoPlace};
 
 use crate::among::is_among;
-use rr_tape::{Recorded, Tape, TapeEvent};
-use rr_text::MAX_EVENTS;
+use rr_text::{MAX_EVENTS, Recorded, Tape, TapeEvent};
 use rr_types::{Body, Command, Estimate, Input, Message, Nodes, Op, Refusal, Reply, made_of};
 use std::alloc::Global;
 use std::marker::Model;
@@ -20,7 +19,7 @@ pub struct Recording {
 
 impl Model for Recording {
     ghost use Rattle.std.specs.Prelude.{◌≡◌};
-    ghost use Rattle.rr_tape.specs.Taped.{Taped, IsTape};
+    ghost use Rattle.rr_text.specs.Taped.{Taped, IsTape};
     ghost use Rattle.rr_locked.specs.Recorded.{sent_on};
 
     ghost Value = { Taped };

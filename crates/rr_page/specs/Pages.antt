@@ -1,7 +1,7 @@
 -- What the page of a run or of a tape has: the data of its events, and its picture.
 use Rattle.std.specs.Prelude.{◌≡◌, ℕ, List, ◌++◌}
 use Rattle.std.specs.List.{flat_map}
-use Rattle.rr_tape.specs.Taped.{Taped}
+use Rattle.rr_text.specs.Taped.{Taped}
 use Rattle.rr_account.specs.Accounts.{Accounted, IsAccountOn}
 use Rattle.rr_account.specs.Objects.{IsExplanation}
 use Rattle.rr_account.specs.TapeAccounts.{IsTapeAccount}

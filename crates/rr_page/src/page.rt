@@ -10,7 +10,7 @@ use crate::parts::{BACK, FRONT, MIDDLE};
 use rr_account::{account_of_tape, account_on, json_explanation};
 use rr_draw::{Cut, picture_of, push_escaped, tape_picture};
 use rr_stream::Sink;
-use rr_tape::Tape;
+use rr_text::Tape;
 use rr_text::text_word::push_bytes;
 use rr_types::Refusal;
 use std::alloc::Global;

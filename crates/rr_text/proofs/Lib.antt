@@ -11,3 +11,6 @@ pub mod ScheduleReading
 pub mod TextReading
 pub mod WordLemmas
 pub mod WordReading
+pub mod MessageReading
+pub mod Readers
+pub mod TapeReading

@@ -7,3 +7,6 @@ pub mod ReportTexts
 pub mod Scheduled
 pub mod ScheduleTexts
 pub mod Words
+pub mod TapeReading
+pub mod Taped
+pub mod TapeTexts

@@ -7,8 +7,8 @@ use Rattle.rr_types.specs.declared.refusal.Refusal.{Refusal}
 use Rattle.rr_types.specs.declared.refusal.Refusal.TheVariants.{OutOfMemory, RoundsOut, BadEvent}
 use Rattle.rr_model.specs.NodeState.{NodeState}
 use Rattle.rr_model.specs.NodeStep.{node_step, refusal_of}
-use Rattle.rr_tape.specs.Taped.{Taped}
-use Rattle.rr_tape.specs.declared.tape_event.TapeEvent.{TapeEvent}
+use Rattle.rr_text.specs.Taped.{Taped}
+use Rattle.rr_text.specs.declared.tape_event.TapeEvent.{TapeEvent}
 use Rattle.rr_locked.specs.Recorded.{HasNoPlace}
 
 no_memory : (e : Refusal) → e ≡ OutOfMemory → e ≡ RoundsOut → ⊥

@@ -1,7 +1,7 @@
 //! What an audit finds, in a line.
 
 use rr_audit::{Verdict, examine};
-use rr_tape::Tape;
+use rr_text::Tape;
 use rr_types::Refusal;
 use std::alloc::Global;
 use std::io;

@@ -1,7 +1,6 @@
 //! What schedules and tapes are tested for alike, each a text of a line of nodes and of lines of events.
 
-use rr_tape::Tape;
-use rr_text::Schedule;
+use rr_text::{Schedule, Tape};
 use rr_types::Refusal;
 use std::alloc::{AllocError, Global};
 use std::process::Abort;

@@ -5,7 +5,7 @@ use super::event_texts::{
 };
 use super::expected::{assert_same, assert_that};
 use rows::TAPES as ROWS;
-use rr_tape::{Recorded, Tape, TapeEvent};
+use rr_text::{Recorded, Tape, TapeEvent};
 use rr_types::{Body, Command, Input, Name, Op, Refusal, Reply, RequestNo, Value};
 use std::process::Abort;
 

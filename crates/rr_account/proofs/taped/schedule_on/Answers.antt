@@ -1,7 +1,7 @@
 use Rattle.std.proofs.Common.{ℕ, List, map, sym, subst}
 use Rattle.rr_text.specs.declared.event.Event.{Event}
 use Rattle.rr_text.specs.Scheduled.{IsSchedule}
-use Rattle.rr_tape.specs.declared.tape_event.TapeEvent.{TapeEvent}
+use Rattle.rr_text.specs.declared.tape_event.TapeEvent.{TapeEvent}
 use Rattle.rr_audit.specs.Rows.{as_scheduled}
 use Rattle.rr_account.proofs.TapeLaws.{is_schedule}
 use Rattle.rr_account.proofs.taped.schedule_on.Goals as goal

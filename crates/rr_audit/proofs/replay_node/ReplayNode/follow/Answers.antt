@@ -1,6 +1,6 @@
 use Rattle.std.proofs.Common.{sym, subst}
-use Rattle.rr_tape.specs.declared.tape_event.Recorded.{Recorded}
-use Rattle.rr_tape.specs.Taped.{of_node}
+use Rattle.rr_text.specs.declared.tape_event.Recorded.{Recorded}
+use Rattle.rr_text.specs.Taped.{of_node}
 use Rattle.rr_audit.specs.Following.{FollowsAt}
 use Rattle.rr_audit.proofs.replay_node.ReplayNode.follow.Goals as goal
 

@@ -1,8 +1,8 @@
 use Rattle.std.proofs.Common.{ℕ, subst, sym}
 use Rattle.rr_types.specs.declared.input.Input.{Input}
 use Rattle.rr_types.specs.Inputs.{message_on}
-use Rattle.rr_tape.specs.declared.tape_event.Recorded.TheVariants.{Told}
-use Rattle.rr_tape.specs.Taped.{of_node}
+use Rattle.rr_text.specs.declared.tape_event.Recorded.TheVariants.{Told}
+use Rattle.rr_text.specs.Taped.{of_node}
 use Rattle.rr_audit.specs.Following.{FollowsAt}
 use Rattle.rr_audit.proofs.Follows.{follows_told}
 use Rattle.rr_audit.proofs.replay_node.ReplayNode.tell_from.Goals as goal

@@ -1,3 +1,0 @@
-pub mod MessageReading
-pub mod Readers
-pub mod TapeReading

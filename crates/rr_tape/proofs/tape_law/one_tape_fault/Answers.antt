@@ -1,6 +1,0 @@
-use Rattle.rr_text.proofs.TextReading.{one_fault}
-use Rattle.rr_tape.proofs.TapeReading.{tapes}
-use Rattle.rr_tape.proofs.tape_law.one_tape_fault.Goals as goal
-
-pub returns : goal.returns
-returns c = one_fault tapes

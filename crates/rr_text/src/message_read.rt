@@ -1,0 +1,96 @@
+//! Reading the words of commands, of estimates and of replies.
+
+ghost use Rattle.std.specs.Prelude.{◌≡◌, None, Some, MatchOption};
+ghost use Rattle.rr_text.specs.TapeReading.{instance_at, round_at, request_at, command_at, estimate_at, plain_reply_at, reply_at};
+
+use crate::text_read::{cut, number, op, small_number};
+use rr_types::{Command, Estimate, Instance, Op, Reply, RequestNo, Round, made_of};
+
+/// The instance that a word is the number of.
+pub fn instance(word: &[u8]) -> Option<Instance>
+    ensures { result ≡ instance_at word.now }
+{
+    Instance::new(small_number(word)?)
+}
+
+/// The round that a word is the number of.
+pub fn round(word: &[u8]) -> Option<Round>
+    ensures { result ≡ round_at word.now }
+{
+    Round::new(small_number(word)?)
+}
+
+/// The request number that a word is.
+pub fn request(word: &[u8]) -> Option<RequestNo>
+    ensures { result ≡ request_at word.now }
+{
+    let (client, seq) = cut(word, b'.')?;
+    let client = small_number(client)?;
+    let seq = number(seq)?;
+    Some(RequestNo { client, seq })
+}
+
+/// The command that a text is.
+pub fn command(text: &[u8]) -> Option<Command>
+    ensures { result ≡ command_at text.now }
+{
+    let (word, rest) = cut(text, b' ')?;
+    let request = request(word)?;
+    let Some(op) = op(rest) else {
+        return None;
+    };
+    Some(Command { request, op })
+}
+
+/// The estimate that a text is.
+pub fn estimate(text: &[u8]) -> Option<Estimate>
+    ensures { result ≡ estimate_at text.now }
+{
+    made_of!(Command, Op);
+    let (word, rest) = cut(text, b' ')?;
+    let round = round(word)?;
+    let (word, rest) = cut(rest, b' ')?;
+    let stamp = small_number(word)?;
+    let Some(command) = command(rest) else {
+        return None;
+    };
+    Estimate::new(round, stamp, command)
+}
+
+fn plain_reply(word: &[u8]) -> Option<Reply>
+    ensures { result ≡ plain_reply_at word.now }
+{
+    if word == b"claimed".as_slice() {
+        Some(Reply::Claimed)
+    } else if word == b"updated".as_slice() {
+        Some(Reply::Updated)
+    } else if word == b"released".as_slice() {
+        Some(Reply::Released)
+    } else if word == b"transferred".as_slice() {
+        Some(Reply::Transferred)
+    } else if word == b"unknown".as_slice() {
+        Some(Reply::Unknown)
+    } else if word == b"notowner".as_slice() {
+        Some(Reply::NotOwner)
+    } else if word == b"full".as_slice() {
+        Some(Reply::Full)
+    } else {
+        None
+    }
+}
+
+/// The reply that a text is.
+pub fn reply(text: &[u8]) -> Option<Reply>
+    ensures { result ≡ reply_at text.now }
+{
+    match cut(text, b' ') {
+        Some((word, rest)) => {
+            if word == b"taken".as_slice() {
+                Some(Reply::Taken(small_number(rest)?))
+            } else {
+                None
+            }
+        }
+        None => plain_reply(text),
+    }
+}
