@@ -1,6 +1,6 @@
-//! What the first page of `rr_script` shows.
+//! What the first page of `rr_text` shows.
 
-use rr_script::Script;
+use rr_text::Script;
 use rr_types::{Nodes, Refusal};
 use std::alloc::Global;
 

@@ -163,7 +163,7 @@ pub fn show_texts(rt: &HostRuntime) {
     if let Ok(nodes) = Nodes::new(1) {
         print(
             rt,
-            "rr_script",
+            "rr_text",
             script::count_lines(alloc, nodes, b"look 0 printer\n").ok(),
         );
         print(rt, "rr_shell", shell::is_look(nodes, b"look printer").ok());

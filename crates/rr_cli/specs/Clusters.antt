@@ -6,9 +6,9 @@ use Rattle.rr_types.specs.declared.command.Command.{Command}
 use Rattle.rr_types.specs.Limits.{max_nodes}
 use Rattle.rr_types.specs.Registry.{registry_of}
 use Rattle.rr_text.specs.ReportTexts.{line, decided_lines}
-use Rattle.rr_script.specs.declared.script_line.ScriptLine.{ScriptLine}
-use Rattle.rr_script.specs.Scripted.{IsScript}
-use Rattle.rr_script.specs.ScriptTexts.{script_text}
+use Rattle.rr_text.specs.declared.script_line.ScriptLine.{ScriptLine}
+use Rattle.rr_text.specs.Scripted.{IsScript}
+use Rattle.rr_text.specs.ScriptTexts.{script_text}
 use Rattle.rr_words.specs.declared.tasks.Form.{Form}
 use Rattle.rr_words.specs.declared.tasks.Form.TheVariants.{Plain, Json}
 use Rattle.rr_verify.specs.declared.fields.Form as code

@@ -12,7 +12,7 @@ use crate::names::Names;
 use crate::numbers::take_number;
 use rr_folders::Block;
 use rr_locked::Turnstile;
-use rr_script::Answer;
+use rr_text::Answer;
 use rr_threads::{Client, Fate, Handle};
 use rr_types::{Binding, Command, Name, NodeId, Op, Refusal, Reply, RequestNo, Value, made_of};
 use rr_window::{Change, Sight, Watch, WindowName};

@@ -2,7 +2,7 @@
 use Rattle.std.proofs.Common.{◌≡◌, ◌∙◌, true, List, ℕ, Option, ap₂, subst}
 use Rattle.std.proofs.KnownBytes.{Appends-kept}
 use Rattle.std.specs.Io.KnownBytes.{Keeps}
-use Rattle.rr_script.specs.declared.script_line.ScriptLine.{ScriptLine}
+use Rattle.rr_text.specs.declared.script_line.ScriptLine.{ScriptLine}
 use Rattle.rr_threads.specs.declared.reused.Reused.{Reused}
 use Rattle.rr_threads.specs.Reusing.{are_reused}
 use Rattle.rr_run.specs.Telling.{TellsReused}

@@ -2,9 +2,9 @@
 use Rattle.std.specs.Prelude.{ℕ, List, ◌++◌, codes}
 use Rattle.std.specs.List.{flat_map}
 use Rattle.rr_text.specs.declared.report.ReportLine.TheVariants as lines
-use Rattle.rr_script.specs.declared.answer.Answer.{Answer}
-use Rattle.rr_script.specs.declared.answer.Answer.TheVariants.{Acknowledged, Unacknowledged, Free, Bound, Unseen}
-use Rattle.rr_script.specs.AnswerTexts.{answer_text}
+use Rattle.rr_text.specs.declared.answer.Answer.{Answer}
+use Rattle.rr_text.specs.declared.answer.Answer.TheVariants.{Acknowledged, Unacknowledged, Free, Bound, Unseen}
+use Rattle.rr_text.specs.AnswerTexts.{answer_text}
 use Rattle.rr_words.specs.declared.tasks.Form.{Form}
 use Rattle.rr_words.specs.declared.tasks.Form.TheVariants.{Plain, Json}
 use Rattle.rr_json.specs.Json.{text_member, words_member, number_member, object_line}

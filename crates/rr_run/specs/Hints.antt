@@ -1,6 +1,6 @@
 -- What a person is told behind an answer.
 use Rattle.std.specs.Prelude.{◌≡◌, if◌then◌else◌, Bool, true, not, ◌&&◌, Option, None, Some}
-use Rattle.rr_script.specs.declared.answer.Answer.TheVariants.{Unacknowledged}
+use Rattle.rr_text.specs.declared.answer.Answer.TheVariants.{Unacknowledged}
 use Rattle.rr_shell.specs.declared.outcome.Outcome.{Outcome}
 use Rattle.rr_shell.specs.declared.outcome.Outcome.TheVariants.{Answered}
 use Rattle.rr_shell.specs.Texts.{left_behind, is_nearly_full}

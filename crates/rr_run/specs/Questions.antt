@@ -3,8 +3,8 @@ use Rattle.std.specs.Prelude.{ℕ, Bool, false, if◌then◌else◌, List, Optio
 use Rattle.rr_types.specs.declared.command.RequestNo.{RequestNo}
 use Rattle.rr_types.specs.declared.summary.NodeSummary.{NodeSummary}
 use Rattle.rr_types.specs.Registry.{is_same_request}
-use Rattle.rr_script.specs.declared.answer.Answer.{Answer}
-use Rattle.rr_script.specs.declared.answer.Answer.TheVariants.{Acknowledged, Unacknowledged, Unseen}
+use Rattle.rr_text.specs.declared.answer.Answer.{Answer}
+use Rattle.rr_text.specs.declared.answer.Answer.TheVariants.{Acknowledged, Unacknowledged, Unseen}
 use Rattle.rr_shell.specs.declared.listing.Listing.{Listing}
 use Rattle.rr_shell.specs.declared.outcome.Outcome.{Outcome}
 use Rattle.rr_shell.specs.declared.outcome.Outcome.TheVariants.{Answered, ListFull, Used, Nothing}

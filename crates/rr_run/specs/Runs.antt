@@ -6,10 +6,10 @@ use Rattle.clap.specs.Words.{Text}
 use Rattle.rr_types.specs.declared.refusal.Refusal.{Refusal}
 use Rattle.rr_stream.specs.Streams.{Printing}
 use Rattle.rr_stream.specs.Files.{Readable, file_at}
-use Rattle.rr_script.specs.declared.answer.Answer.{Answer}
-use Rattle.rr_script.specs.Scripted.{Scripted, IsScript}
-use Rattle.rr_script.specs.ScriptTexts.{script_text}
-use Rattle.rr_script.specs.Faults.{IsScriptFault}
+use Rattle.rr_text.specs.declared.answer.Answer.{Answer}
+use Rattle.rr_text.specs.Scripted.{Scripted, IsScript}
+use Rattle.rr_text.specs.ScriptTexts.{script_text}
+use Rattle.rr_text.specs.Faults.{IsScriptFault}
 use Rattle.rr_cli.specs.Randoms.{IsNumberIn}
 use Rattle.rr_cli.specs.Ends.{EndsOnInput, IsStreamStatus, Prints}
 use Rattle.rr_cli.specs.Views.{EndsWithViews}

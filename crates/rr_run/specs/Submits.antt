@@ -1,6 +1,6 @@
 -- What a node's client finds that a submit has come to.
 use Rattle.rr_types.specs.declared.command.RequestNo.{RequestNo}
-use Rattle.rr_script.specs.declared.answer.Answer.{Answer}
+use Rattle.rr_text.specs.declared.answer.Answer.{Answer}
 use Rattle.rr_threads.specs.declared.fate.Fate.{Fate}
 use Rattle.rr_threads.specs.declared.fate.Fate.TheVariants as fate
 use Rattle.rr_threads.specs.Asking.{Asking, IsAnswered}

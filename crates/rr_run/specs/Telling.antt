@@ -7,8 +7,8 @@ use Rattle.clap.specs.Kinds.{Kinds}
 use Rattle.clap.specs.Words.{Text}
 use Rattle.rr_stream.specs.Streams.{Reading, AreAllOf}
 use Rattle.rr_stream.specs.Files.{Readable, file_at}
-use Rattle.rr_script.specs.declared.script_line.ScriptLine.{ScriptLine}
-use Rattle.rr_script.specs.ScriptTexts.{script_text}
+use Rattle.rr_text.specs.declared.script_line.ScriptLine.{ScriptLine}
+use Rattle.rr_text.specs.ScriptTexts.{script_text}
 use Rattle.rr_shell.specs.Texts.{used_text}
 use Rattle.rr_threads.specs.declared.reused.Reused.{Reused}
 use Rattle.rr_threads.specs.Reusing.{are_reused}

@@ -9,8 +9,7 @@ use rr_cli::Form;
 use rr_json::{
     push_end, push_line_front, push_number_member, push_open, push_text_member, push_words_member,
 };
-use rr_script::{Answer, Answers};
-use rr_text::ReportLine;
+use rr_text::{Answer, Answers, ReportLine};
 use rr_types::{Name, NodeId, Reply, RequestNo};
 use std::alloc::{AllocError, Global};
 

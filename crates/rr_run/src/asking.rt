@@ -8,9 +8,9 @@ ghost use Rattle.rr_run.specs.Questions.{node_of, answer_in, outcome_at, outcome
 
 use crate::news::NewEar;
 use crate::used::Greatest;
-use rr_script::Answer;
 use rr_shell::{Listing, Outcome, is_listing_at};
 use rr_talk::is_sight_at;
+use rr_text::Answer;
 use rr_threads::Written;
 use rr_types::{Command, Name, NodeId, NodeSummary, Reply, RequestNo, Value, made_of};
 

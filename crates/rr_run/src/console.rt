@@ -13,9 +13,9 @@ use crate::asking::{Question, Told, is_written, listing_in, outcome_in, sight_in
 use crate::board::{Board, ask, switch, wait_until_begun};
 use crate::news::{Ear, next_changes};
 use rr_folders::{Block, Locks};
-use rr_script::Answer;
 use rr_shell::{Listing, NodeStatus, Outcome, is_nearly_full, left_behind};
 use rr_talk::{Asked, Hint};
+use rr_text::Answer;
 use rr_types::{Command, Name, NodeId, Nodes, Op, Refusal, Reply, RequestNo, Value, made_of};
 use rr_window::Change;
 use std::fs::OpenFile;

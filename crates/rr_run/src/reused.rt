@@ -5,8 +5,8 @@ ghost use Rattle.std.specs.List.{flat_map};
 ghost use Rattle.rr_threads.specs.Reusing.{are_reused};
 ghost use Rattle.rr_run.specs.Telling.{reused_line, GrowsByFront, TellsReused};
 
-use rr_script::ScriptLine;
 use rr_shell::push_used_text;
+use rr_text::ScriptLine;
 use rr_text::text_word::{push_byte, push_bytes};
 use rr_threads::Reused;
 use std::alloc::{AllocError, Global};

@@ -23,9 +23,8 @@ use rr_folders::{
 };
 use rr_journal::inspect;
 use rr_locked::Open;
-use rr_script::{Answers, Script};
 use rr_stream::{FileReader, Sink, Source, read_all};
-use rr_text::Tape;
+use rr_text::{Answers, Script, Tape};
 use rr_threads::{Ran, Recorder, run_script_told};
 use rr_types::{Nodes, Refusal};
 use std::alloc::Global;

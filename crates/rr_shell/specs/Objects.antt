@@ -3,8 +3,8 @@ use Rattle.std.specs.Prelude.{ℕ, List, [], ◌∷◌, ◌++◌, length, Option
 use Rattle.std.specs.List.{flat_map}
 use Rattle.rr_text.specs.ReportTexts.{reply_words}
 use Rattle.rr_types.specs.declared.binding.Binding.{Binding}
-use Rattle.rr_script.specs.declared.answer.Answer.{Answer}
-use Rattle.rr_script.specs.declared.answer.Answer.TheVariants.{Acknowledged, Unacknowledged, Free, Bound, Unseen}
+use Rattle.rr_text.specs.declared.answer.Answer.{Answer}
+use Rattle.rr_text.specs.declared.answer.Answer.TheVariants.{Acknowledged, Unacknowledged, Free, Bound, Unseen}
 use Rattle.rr_shell.specs.declared.status.NodeStatus.{NodeStatus}
 use Rattle.rr_types.specs.declared.summary.NodeSummary.{NodeSummary}
 use Rattle.rr_json.specs.Json.{label, text_member, words_member, number_member, opened, object_line}

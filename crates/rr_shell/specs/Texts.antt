@@ -7,8 +7,8 @@ use Rattle.rr_types.specs.Limits.{instance_count}
 use Rattle.rr_types.specs.declared.command.Command.{Command}
 use Rattle.rr_types.specs.declared.command.RequestNo.{RequestNo}
 use Rattle.rr_types.specs.declared.binding.Binding.{Binding}
-use Rattle.rr_script.specs.declared.answer.Answer.{Answer}
-use Rattle.rr_script.specs.declared.answer.Answer.TheVariants.{Acknowledged, Unacknowledged, Free, Bound, Unseen}
+use Rattle.rr_text.specs.declared.answer.Answer.{Answer}
+use Rattle.rr_text.specs.declared.answer.Answer.TheVariants.{Acknowledged, Unacknowledged, Free, Bound, Unseen}
 use Rattle.rr_shell.specs.declared.status.NodeStatus.{NodeStatus}
 use Rattle.rr_types.specs.declared.summary.NodeSummary.{NodeSummary}
 use Rattle.rr_shell.specs.declared.shell_line.LineFault.{LineFault}

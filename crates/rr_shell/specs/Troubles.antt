@@ -3,8 +3,8 @@ use Rattle.std.specs.Prelude.{ℕ, List, Option, None, Some}
 use Rattle.rr_types.specs.declared.binding.Binding.{Binding}
 use Rattle.rr_types.specs.declared.command.Reply.{Reply}
 use Rattle.rr_types.specs.declared.command.Reply.TheVariants as reply
-use Rattle.rr_script.specs.declared.answer.Answer.{Answer}
-use Rattle.rr_script.specs.declared.answer.Answer.TheVariants as answer
+use Rattle.rr_text.specs.declared.answer.Answer.{Answer}
+use Rattle.rr_text.specs.declared.answer.Answer.TheVariants as answer
 use Rattle.rr_shell.specs.declared.outcome.Outcome.{Outcome}
 use Rattle.rr_shell.specs.declared.outcome.Outcome.TheVariants as outcome
 use Rattle.rr_shell.specs.declared.troubles.Trouble.{Trouble}

@@ -9,7 +9,7 @@ ghost use Rattle.rr_shell.specs.Texts.{bound_words, answer_words, answer_line, b
 use crate::listing::Listing;
 use crate::shell_line::{LineFault, MAX_LINE};
 use crate::status::{NodeStatus, left_behind};
-use rr_script::Answer;
+use rr_text::Answer;
 use rr_text::text_word::{
     push_byte, push_bytes, push_number, push_number_word, push_set, push_word,
 };

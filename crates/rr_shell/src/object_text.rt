@@ -18,7 +18,7 @@ use rr_json::{
     push_end, push_escaped, push_label, push_number_member, push_open, push_text_member,
     push_words_member,
 };
-use rr_script::Answer;
+use rr_text::Answer;
 use rr_text::text_word::{push_byte, push_bytes};
 use rr_types::{Binding, Command, Name, NodeId, NodeSummary, Nodes, Reply, Value};
 use std::alloc::{AllocError, Global};

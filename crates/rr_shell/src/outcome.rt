@@ -4,7 +4,7 @@ ghost use Rattle.std.specs.Prelude.{◌≡◌, ◌++◌, ◌∷◌, OnOk};
 ghost use Rattle.rr_text.specs.Words.{spaced};
 ghost use Rattle.rr_shell.specs.Texts.{numbered_text, used_text, full_text, nothing_text};
 
-use rr_script::Answer;
+use rr_text::Answer;
 use rr_text::text_report::push_request;
 use rr_text::text_word::{push_bytes, push_op};
 use rr_types::{Command, RequestNo};

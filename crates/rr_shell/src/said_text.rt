@@ -18,7 +18,7 @@ use crate::object_text::{
 use crate::outcome::{Outcome, push_full_text, push_nothing_text, push_used_text};
 use crate::shell_line::LineFault;
 use crate::status::NodeStatus;
-use rr_script::Answer;
+use rr_text::Answer;
 use rr_text::text_word::{push_byte, push_bytes};
 use rr_types::{Binding, Command, Name, NodeId, Nodes};
 use std::alloc::{AllocError, Global};

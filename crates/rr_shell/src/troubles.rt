@@ -5,7 +5,7 @@ ghost use Rattle.rr_shell.specs.Troubles.{reply_trouble, answer_trouble, outcome
 
 use crate::listing::Listing;
 use crate::outcome::Outcome;
-use rr_script::Answer;
+use rr_text::Answer;
 use rr_types::Reply;
 
 /// Why a line wasn't answered as it asked.

@@ -1,7 +1,7 @@
 -- What those whom a shell asks do for its lines.
 use Rattle.std.specs.Prelude.{ℕ, Bool, List, Option}
 use Rattle.rr_types.specs.declared.command.Op.{Op}
-use Rattle.rr_script.specs.declared.answer.Answer.{Answer}
+use Rattle.rr_text.specs.declared.answer.Answer.{Answer}
 use Rattle.rr_shell.specs.declared.listing.Listing.{Listing}
 use Rattle.rr_shell.specs.declared.outcome.Outcome.{Outcome}
 use Rattle.rr_shell.specs.declared.status.NodeStatus.{NodeStatus}

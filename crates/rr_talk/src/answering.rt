@@ -9,8 +9,8 @@ ghost use Rattle.rr_talk.specs.Deeds.{Deed, submits, repeats, catches_up, looks,
 ghost use Rattle.rr_talk.specs.Talks.{is_reply_at, is_outcome_at, is_sight_at, IsKept, IsAskedAgain};
 ghost use Rattle.rr_talk.specs.Watches.{bytes_of, IsPiece};
 
-use rr_script::Answer;
 use rr_shell::{Listing, NodeStatus, Outcome};
+use rr_text::Answer;
 use rr_types::{Name, NodeId, Op, Refusal};
 use rr_window::Change;
 

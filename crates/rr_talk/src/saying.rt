@@ -8,13 +8,13 @@ ghost use Rattle.rr_shell.specs.Forms.{answer_said, outcome_said, list_said, mov
 
 use crate::answering::Asked;
 use crate::watching::Watched;
-use rr_script::Answer;
 use rr_shell::{
     LineFault, Listing, Outcome, ShellLine, Trouble, answer_trouble, listing_trouble,
     outcome_trouble, say_answer, say_down, say_fault, say_help, say_listing, say_move,
     say_no_snapshot, say_outcome, say_snapshot, say_start, say_status, say_stop, say_sync,
     sync_trouble,
 };
+use rr_text::Answer;
 use rr_types::{Name, NodeId, Nodes, Op, Refusal, Reply, Value, made_of};
 use std::alloc::Global;
 

@@ -14,3 +14,4 @@ pub mod WordReading
 pub mod MessageReading
 pub mod Readers
 pub mod TapeReading
+pub mod ScriptReading

@@ -10,3 +10,8 @@ pub mod Words
 pub mod TapeReading
 pub mod Taped
 pub mod TapeTexts
+pub mod AnswerTexts
+pub mod Faults
+pub mod ScriptReading
+pub mod Scripted
+pub mod ScriptTexts

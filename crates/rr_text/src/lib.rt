@@ -18,12 +18,19 @@
 //! ```
 #![tactic(auto)]
 
+mod answer;
+mod answer_text;
 mod command_laws;
 mod event;
 mod kind;
 mod message_read;
 mod report;
 mod schedule;
+mod script;
+mod script_law;
+mod script_line;
+mod script_parse;
+mod script_text;
 mod sent_read;
 mod tape;
 mod tape_event;
@@ -37,11 +44,14 @@ pub mod text_report;
 pub mod text_schedule;
 pub mod text_word;
 
+pub use answer::{Answer, Answers};
 pub use command_laws::command_law;
 pub use event::{Event, Fill, Happening};
 pub use kind::EventKind;
 pub use report::{BoundNames, Report, ReportLine};
 pub use schedule::{MAX_EVENTS, Schedule};
+pub use script::Script;
+pub use script_line::ScriptLine;
 pub use tape::Tape;
 pub use tape_event::{Recorded, TapeEvent};
 pub use tape_parse::next_tape_event;

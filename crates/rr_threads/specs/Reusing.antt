@@ -3,8 +3,8 @@ use Rattle.std.specs.Prelude.{ℕ, Bool, true, false, ◌&&◌, not, nat_lt, Lis
 use Rattle.rr_types.specs.Registry.{is_same_request}
 use Rattle.rr_types.specs.Commands.{is_same_op}
 use Rattle.rr_types.specs.declared.command.Command.{Command}
-use Rattle.rr_script.specs.declared.script_line.ScriptLine.{ScriptLine}
-use Rattle.rr_script.specs.declared.script_line.ScriptLine.TheVariants.{Submit, Look}
+use Rattle.rr_text.specs.declared.script_line.ScriptLine.{ScriptLine}
+use Rattle.rr_text.specs.declared.script_line.ScriptLine.TheVariants.{Submit, Look}
 use Rattle.rr_threads.specs.declared.reused.Reused.{Reused}
 
 -- whether a line submits a command whose request number another command has

@@ -4,7 +4,7 @@ ghost use Rattle.std.specs.Prelude.{◌≡◌, option_map};
 ghost use Rattle.rr_threads.specs.Reusing.{is_reused_by, is_reused, follow, are_reused};
 
 use rr_core::Core;
-use rr_script::ScriptLine;
+use rr_text::ScriptLine;
 use rr_types::{Command, Name, NodeId, Op, RequestNo, Value, made_of};
 use std::alloc::{AllocError, Global};
 use std::collections::BTreeMap;

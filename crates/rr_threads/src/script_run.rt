@@ -12,7 +12,7 @@ use crate::reused::{Reused, are_reused};
 use crate::run::{run_all, usual_tick};
 use rr_disk::Disk;
 use rr_locked::Turnstile;
-use rr_script::{Answer, Answers, Script, ScriptLine};
+use rr_text::{Answer, Answers, Script, ScriptLine};
 use rr_types::{Command, Name, Nodes, Op, Refusal, Reply, Value, made_of};
 use rr_window::WindowName;
 use std::alloc::Global;

@@ -12,9 +12,9 @@ use Rattle.rr_types.specs.declared.command.RequestNo.{RequestNo}
 use Rattle.rr_types.specs.declared.command.Command.{Command}
 use Rattle.rr_types.specs.Limits.{max_bound}
 use Rattle.rr_types.specs.Registry.{Holding, Bindings, holding_of, apply, is_same_request, has_request, firsts, firsts_beside, registry_of}
-use Rattle.rr_script.specs.declared.script_line.ScriptLine.{ScriptLine}
-use Rattle.rr_script.specs.declared.script_line.ScriptLine.TheVariants.{Submit}
-use Rattle.rr_script.specs.Scripted.{IsScriptLine}
+use Rattle.rr_text.specs.declared.script_line.ScriptLine.{ScriptLine}
+use Rattle.rr_text.specs.declared.script_line.ScriptLine.TheVariants.{Submit}
+use Rattle.rr_text.specs.Scripted.{IsScriptLine}
 use Rattle.rr_text.specs.Words.{IsCommand}
 use Rattle.rr_verify.specs.Exports.{owned, claim_of, claims_behind, export_of, commands_of}
 use Rattle.rr_verify.proofs.BoundLemmas.{order, AreAbove, Ascend, AreKept, reversed, registry_kept}

@@ -3,8 +3,8 @@ use Rattle.std.specs.Prelude.{ℕ, suc, ◌+◌, ◌==◌, if◌then◌else◌, 
 use Rattle.rr_types.specs.declared.command.Op.TheVariants.{Claim}
 use Rattle.rr_types.specs.declared.command.Command.{Command}
 use Rattle.rr_types.specs.Registry.{Holding, Bindings}
-use Rattle.rr_script.specs.declared.script_line.ScriptLine.{ScriptLine}
-use Rattle.rr_script.specs.declared.script_line.ScriptLine.TheVariants.{Submit, Look}
+use Rattle.rr_text.specs.declared.script_line.ScriptLine.{ScriptLine}
+use Rattle.rr_text.specs.declared.script_line.ScriptLine.TheVariants.{Submit, Look}
 
 -- how many of these names a client has
 abbrev pub owned : ℕ → Bindings → ℕ

@@ -4,12 +4,11 @@ ghost use Rattle.std.specs.Prelude.{◌≡◌, ◌≤◌, ℕ, [], IfOk, length}
 ghost use Rattle.std.specs.List.{AllByRecursion};
 ghost use Rattle.rr_types.specs.Limits.{max_nodes};
 ghost use Rattle.rr_types.specs.Registry.{registry_of};
-ghost use Rattle.rr_script.specs.Scripted.{IsScript, IsScriptLine};
+ghost use Rattle.rr_text.specs.Scripted.{IsScript, IsScriptLine};
 ghost use Rattle.rr_verify.specs.Exports.{owned, claim_of, claims_behind, export_of, commands_of};
 
 use rr_registry::{Holding, Registry};
-use rr_script::{Script, ScriptLine};
-use rr_text::command_law;
+use rr_text::{Script, ScriptLine, command_law};
 use rr_types::{Command, Name, NodeId, Nodes, Op, RequestNo, Value, made_of};
 use std::alloc::{AllocError, Global};
 

@@ -1,5 +1,5 @@
 use super::expected::{assert_same, assert_that};
-use rr_script::{Answer, Answers, Script, ScriptLine};
+use rr_text::{Answer, Answers, Script, ScriptLine};
 use rr_types::{Name, NodeId, Nodes, Refusal, Reply, RequestNo, Value};
 use std::alloc::Global;
 use std::process::Abort;

@@ -2,7 +2,7 @@
 
 use rr_disk::MemDisk;
 use rr_locked::Turnstile;
-use rr_script::{Answer, ScriptLine};
+use rr_text::{Answer, ScriptLine};
 use rr_threads::{Client, Handle, run_clients};
 use rr_types::{Command, Name, NodeId, Nodes, Op, Refusal, Reply, RequestNo, Value};
 use rr_window::WindowName;

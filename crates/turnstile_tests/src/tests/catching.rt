@@ -2,7 +2,7 @@
 
 use super::asking::{TURNS, disks_for, node_of, numbered, rest};
 use rr_locked::{Place, Turnstile};
-use rr_script::Answer;
+use rr_text::Answer;
 use rr_threads::{Client, Handle, Switches, run_switched};
 use rr_types::{Command, Name, NodeId, Nodes, Op, Refusal, RequestNo, Value};
 use rr_window::WindowName;

@@ -2,7 +2,7 @@
 
 use rr_disk::MemDisk;
 use rr_locked::{Open, Turnstile};
-use rr_script::Answer;
+use rr_text::Answer;
 use rr_threads::{Client, Handle, run_clients};
 use rr_types::{Command, Name, Nodes, Op, Refusal, RequestNo, Value};
 use rr_window::WindowName;

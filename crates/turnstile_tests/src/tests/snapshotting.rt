@@ -2,7 +2,7 @@
 
 use super::asking::{TURNS, claim, disks_for, node_of, numbered, rest};
 use rr_locked::{Place, Turnstile};
-use rr_script::{Answer, ScriptLine};
+use rr_text::{Answer, ScriptLine};
 use rr_threads::{Client, Handle, Switches, run_switched};
 use rr_types::{Name, NodeId, Refusal};
 use rr_window::WindowName;

@@ -1,7 +1,7 @@
 use Rattle.std.proofs.Common.{◌≡◌, ◌≤◌, ◌∙◌, ◌+◌, ◌++◌, ◌∷◌, [], ℕ, sym, ap, ap₂, subst, take}
 use Rattle.std.specs.List.{AllByRecursion}
-use Rattle.rr_script.specs.declared.script_line.ScriptLine.TheVariants.{Submit}
-use Rattle.rr_script.specs.Scripted.{IsScriptLine}
+use Rattle.rr_text.specs.declared.script_line.ScriptLine.TheVariants.{Submit}
+use Rattle.rr_text.specs.Scripted.{IsScriptLine}
 use Rattle.rr_verify.specs.Exports.{owned, claim_of, export_of}
 use Rattle.rr_verify.proofs.ExportLemmas.{claims_next, lawful_more}
 use Rattle.rr_verify.proofs.exporting.claims.Goals as goal

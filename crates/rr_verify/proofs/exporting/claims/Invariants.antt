@@ -1,7 +1,7 @@
 use Rattle.std.proofs.Common.{◌≡◌, ◌≤◌, ◌++◌, ℕ, map, take, drop}
 use Rattle.std.specs.List.{AllByRecursion}
-use Rattle.rr_script.specs.declared.script_line.ScriptLine.TheVariants.{Submit}
-use Rattle.rr_script.specs.Scripted.{IsScriptLine}
+use Rattle.rr_text.specs.declared.script_line.ScriptLine.TheVariants.{Submit}
+use Rattle.rr_text.specs.Scripted.{IsScriptLine}
 use Rattle.rr_verify.specs.Exports.{claims_behind, export_of}
 use Rattle.rr_verify.proofs.exporting.claims.Given as goal
 

@@ -1,7 +1,7 @@
 use Rattle.std.proofs.Common.{◌≡◌, ◌∙◌, sym, ap, subst, arith, rules}
 use Rattle.std.specs.List.{AllByRecursion}
 use Rattle.rr_types.specs.Registry.{registry_of}
-use Rattle.rr_script.specs.Scripted.{Scripted, IsScriptLine}
+use Rattle.rr_text.specs.Scripted.{Scripted, IsScriptLine}
 use Rattle.rr_verify.specs.Exports.{export_of, commands_of}
 use Rattle.rr_verify.proofs.ExportLemmas.{export_same}
 use Rattle.rr_verify.proofs.exporting.export.Goals as goal
