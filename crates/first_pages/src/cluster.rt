@@ -1,6 +1,6 @@
-//! What the first page of `rr_cluster` shows.
+//! What the first page of `rr_folders` shows.
 
-use rr_cluster::Cluster;
+use rr_folders::Cluster;
 
 /// How many nodes a cluster has whose file `cluster` has this text. Another text says of no cluster.
 pub fn count_nodes(text: &[u8]) -> Option<u8> {

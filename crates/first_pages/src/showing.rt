@@ -88,7 +88,7 @@ pub fn show_disks(rt: &HostRuntime, instance: Instance, command: &Command) {
     print(rt, "rr_journal", count_appended(alloc, instance, command));
     print(
         rt,
-        "rr_cluster",
+        "rr_folders",
         cluster::count_nodes(b"cluster-1 12 34 3 012\n"),
     );
     print_text(

@@ -1,7 +1,6 @@
 //! What goes wrong with a cluster and its names.
 
-use rr_cluster::Fault;
-use rr_folders::Closed;
+use rr_folders::{Closed, Fault};
 use rr_types::{Command, NodeId, Refusal};
 use std::alloc::{AllocError, AllocFailed, Global};
 use thiserror::Error;

@@ -1,2 +1,4 @@
 mod NumberLaws
 mod ReservingLaws
+pub mod ClusterReading
+pub mod Guarding

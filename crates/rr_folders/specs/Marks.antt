@@ -5,7 +5,7 @@ use Rattle.rr_types.specs.declared.refusal.Refusal.{Refusal}
 use Rattle.rr_types.specs.declared.refusal.Refusal.TheVariants.{Device, OutOfMemory}
 use Rattle.rr_types.specs.Counts.{counted}
 use Rattle.rr_disk.specs.declared.area.Area.{Area}
-use Rattle.rr_cluster.specs.declared.cluster.Course.{Course}
+use Rattle.rr_folders.specs.declared.cluster.Course.{Course}
 
 -- the disk below, the keeper of the mark, whether an area's first gate is open whose mark isn't settled, and how many device calls were made and failed
 pub record MarkedState (D K : Type 0) : Type 0 where

@@ -2,7 +2,7 @@
 
 ghost use Rattle.std.specs.Prelude.{◌≡◌, Ok, IfOk};
 
-use rr_cluster::Fault;
+use crate::judging::Fault;
 use rr_types::{NodeId, Refusal};
 use std::alloc::{AllocError, AllocFailed};
 use std::io;

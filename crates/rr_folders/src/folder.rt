@@ -4,14 +4,16 @@ ghost use Rattle.std.specs.Prelude.{◌≡◌, ◌⊎◌, length, Contains, IfOk
 ghost use Rattle.rr_types.specs.declared.refusal.Refusal.TheVariants.{Device, OutOfMemory};
 
 use crate::closed::{Closed, done};
+use crate::cluster::Cluster;
 use crate::forming::{are_formatted, begin, conclude, open_disks, take_on, tidy};
+use crate::front::Content;
+use crate::judging::{Verdict, judge};
 use crate::lock::{Lockable, Locks};
 use crate::mark_file::FolderMark;
 use crate::marked::MarkedDisk;
 use crate::plain::see_requests;
 use crate::seen::{Seen, cluster_in, is_there, look_at, look_over};
 use crate::tip::Tip;
-use rr_cluster::{Cluster, Content, Verdict, judge};
 use rr_disk::{FileDisk, OpenedFile, make_folder};
 use rr_types::{Nodes, Refusal};
 use std::fs;

@@ -4,14 +4,15 @@
 ghost use Rattle.std.specs.Prelude.{◌≡◌, ◌<◌, length, IfOk};
 
 use crate::closed::{Closed, done};
+use crate::cluster::{Cluster, Course, Identity, Mark};
 use crate::folder::{NodeDisk, Survey, remove_made};
+use crate::front::AreaFront;
 use crate::lock::{Lockable, Locks};
 use crate::mark_file::FolderMark;
 use crate::marked::MarkedDisk;
 use crate::plain::make_fresh;
 use crate::seen::{Seen, course_of, is_there};
 use crate::tip::Tip;
-use rr_cluster::{AreaFront, Cluster, Course, Identity, Mark};
 use rr_disk::{FileDisk, OpenedFile, make_folder};
 use rr_journal::Journal;
 use rr_types::{NodeId, NodeSet, Nodes, Refusal};

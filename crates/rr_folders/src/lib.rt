@@ -20,8 +20,13 @@
 #![tactic(auto)]
 
 mod closed;
+mod cluster;
+mod cluster_parse;
+mod cluster_text;
 mod folder;
 mod forming;
+mod front;
+mod judging;
 mod lock;
 mod mark_file;
 mod marked;
@@ -33,8 +38,10 @@ mod seen;
 mod tip;
 
 pub use closed::{Closed, print_closed};
+pub use cluster::Cluster;
 pub use folder::{Folders, NodeDisk, Survey, enter, judge_folders, open_folders, survey_folders};
 pub use forming::try_folder;
+pub use judging::Fault;
 pub use lock::{Lockable, Locks};
 pub use mark_file::{FolderMark, MarkKeeper};
 pub use marked::MarkedDisk;

@@ -3,15 +3,15 @@
 ghost use Rattle.std.specs.Prelude.{is_ok, Bool};
 
 use crate::closed::Closed;
+use crate::cluster::{Course, Identity, Mark};
 use crate::forming::{put_in_place, write_fresh};
-use rr_cluster::{Course, Identity, Mark};
 use rr_types::{NodeId, Refusal};
 use std::alloc::AllocError;
 use std::rt::Files;
 
 /// Where it is kept how far a node's disk came.
 pub trait MarkKeeper {
-    ghost use Rattle.rr_cluster.specs.declared.cluster.Course.{Course};
+    ghost use Rattle.rr_folders.specs.declared.cluster.Course.{Course};
 
     /// That a put of this course, which succeeded or not, may have brought it from one state to another.
     ghost puts: { Self → Course → Bool → Self → Type 0 };

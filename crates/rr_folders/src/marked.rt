@@ -5,9 +5,9 @@ ghost use Rattle.rr_types.specs.declared.refusal.Refusal.TheVariants.{Device};
 ghost use Rattle.rr_disk.specs.Crash.{restarted};
 ghost use Rattle.rr_folders.specs.Marks.{MarkedRead, MarkedWrite, MarkedSync, WasPut, opens_area};
 
+use crate::cluster::{Course, Reached};
 use crate::mark_file::MarkKeeper;
 use crate::tip::{OPEN, Tip, settled};
-use rr_cluster::{Course, Reached};
 use rr_disk::{Area, Disk};
 use rr_types::Refusal;
 use std::alloc::Global;

@@ -1,13 +1,12 @@
 //! What is found of a cluster's folders before any is opened. Nothing is written.
 
 use crate::closed::{Closed, done, failed};
+use crate::cluster::{Cluster, Course, Digest, Identity, Mark, Reached};
+use crate::front::{Active, AreaFront, Content, active_of, content_of, front_of};
+use crate::judging::Found;
 use crate::lock::Locks;
 use crate::plain::is_plain;
 use crate::tip::{Tip, digest_of};
-use rr_cluster::{
-    Active, AreaFront, Cluster, Content, Course, Digest, Found, Identity, Mark, Reached, active_of,
-    content_of, front_of,
-};
 use rr_disk::Area;
 use rr_types::made_of;
 use sha2::{Digest as _, Sha256};

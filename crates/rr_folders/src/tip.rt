@@ -1,6 +1,6 @@
 //! How far an area of a disk came, as its bytes are written or read.
 
-use rr_cluster::{Course, Digest, Reached};
+use crate::cluster::{Course, Digest, Reached};
 use rr_disk::Area;
 use sha2::{Digest as _, Sha256};
 use std::alloc::AllocError;

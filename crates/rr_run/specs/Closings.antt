@@ -2,8 +2,8 @@
 use Rattle.std.specs.Prelude.{◌≡◌, ◌⊎◌, ℕ, Bool, true, false}
 use Rattle.rr_types.specs.declared.refusal.Refusal.{Refusal}
 use Rattle.rr_types.specs.declared.refusal.Refusal.TheVariants as refusals
-use Rattle.rr_cluster.specs.declared.judging.Fault.{Fault}
-use Rattle.rr_cluster.specs.declared.judging.Fault.TheVariants.{Cut, OtherNode, OtherNodes, Older, Shorter, Altered}
+use Rattle.rr_folders.specs.declared.judging.Fault.{Fault}
+use Rattle.rr_folders.specs.declared.judging.Fault.TheVariants.{Cut, OtherNode, OtherNodes, Older, Shorter, Altered}
 use Rattle.rr_journal.specs.Image.{Found, Broken}
 use Rattle.rr_journal.specs.Ends.{area_number}
 use Rattle.rr_folders.specs.declared.closed.Closed.{Closed}

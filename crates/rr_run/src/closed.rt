@@ -4,8 +4,7 @@ ghost use Rattle.rr_journal.specs.Image.{found};
 ghost use Rattle.rr_run.specs.Closings.{may_be_damaged, IsRefusalOf, IsClosedBy, IsRefusedFor};
 
 use rr_cli::{end_by_refusal, print_folder_fault};
-use rr_cluster::Fault;
-use rr_folders::{Closed, print_closed};
+use rr_folders::{Closed, Fault, print_closed};
 use rr_journal::read_image;
 use rr_types::{NodeId, Nodes, Refusal};
 use std::alloc::Global;

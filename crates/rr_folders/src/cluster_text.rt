@@ -1,7 +1,7 @@
 //! Printing the file of a cluster, and that of a node's folder.
 
 ghost use Rattle.std.specs.Prelude.{◌≡◌, ◌++◌, ◌∷◌, decimal, OnOk, IfOk};
-ghost use Rattle.rr_cluster.specs.ClusterTexts.{cluster_text, digest_words, reached_words, far_words, mark_text};
+ghost use Rattle.rr_folders.specs.ClusterTexts.{cluster_text, digest_words, reached_words, far_words, mark_text};
 
 use crate::cluster::{Cluster, Course, Digest, Identity, Mark, Reached};
 use rr_text::text_word::{push_byte, push_bytes, push_number_word, push_set};

@@ -1,7 +1,7 @@
 //! What the first bytes of a disk's areas say of its node.
 
 ghost use Rattle.std.specs.Prelude.{◌≡◌};
-ghost use Rattle.rr_cluster.specs.Fronts.{formatted_front, number_of, epoch_of, front_of, content_of, active_of};
+ghost use Rattle.rr_folders.specs.Fronts.{formatted_front, number_of, epoch_of, front_of, content_of, active_of};
 
 use rr_types::{NodeId, Nodes};
 

@@ -1,12 +1,12 @@
 -- The texts of a cluster's file and of the file in a node's folder: words, divided by one space, and a line feed.
 use Rattle.std.specs.Prelude.{ℕ, List, [], ◌∷◌, ◌++◌, Option, None, Some, codes, decimal}
 use Rattle.rr_text.specs.Words.{set_text}
-use Rattle.rr_cluster.specs.declared.cluster.Identity.{Identity}
-use Rattle.rr_cluster.specs.declared.cluster.Cluster.{Cluster}
-use Rattle.rr_cluster.specs.declared.cluster.Mark.{Mark}
-use Rattle.rr_cluster.specs.declared.cluster.Digest.{Digest}
-use Rattle.rr_cluster.specs.declared.cluster.Reached.{Reached}
-use Rattle.rr_cluster.specs.declared.cluster.Course.{Course}
+use Rattle.rr_folders.specs.declared.cluster.Identity.{Identity}
+use Rattle.rr_folders.specs.declared.cluster.Cluster.{Cluster}
+use Rattle.rr_folders.specs.declared.cluster.Mark.{Mark}
+use Rattle.rr_folders.specs.declared.cluster.Digest.{Digest}
+use Rattle.rr_folders.specs.declared.cluster.Reached.{Reached}
+use Rattle.rr_folders.specs.declared.cluster.Course.{Course}
 
 -- what both begin with: what file it is and its version, and which cluster; then more
 abbrev pub headed : List ℕ → Identity → List ℕ → List ℕ

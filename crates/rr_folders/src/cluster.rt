@@ -1,7 +1,7 @@
 //! Clusters, and whose a folder is.
 
 ghost use Rattle.std.specs.Prelude.{◌≡◌};
-ghost use Rattle.rr_cluster.specs.Clusters.{same_identity, same_digest, reaches};
+ghost use Rattle.rr_folders.specs.Clusters.{same_identity, same_digest, reaches};
 
 use rr_types::{NodeId, NodeSet, Nodes};
 

@@ -1,12 +1,12 @@
 -- Clusters, and whose a folder is.
 use Rattle.std.specs.Prelude.{◌<◌, ◌≤◌, ◌^◌, ◌==◌, ◌&&◌, Bool, Option, None, Some, IfSome}
 use Rattle.rr_types.specs.Limits.{max_nodes}
-use Rattle.rr_cluster.specs.declared.cluster.Identity.{Identity}
-use Rattle.rr_cluster.specs.declared.cluster.Cluster.{Cluster}
-use Rattle.rr_cluster.specs.declared.cluster.Mark.{Mark}
-use Rattle.rr_cluster.specs.declared.cluster.Digest.{Digest}
-use Rattle.rr_cluster.specs.declared.cluster.Reached.{Reached}
-use Rattle.rr_cluster.specs.declared.cluster.Course.{Course}
+use Rattle.rr_folders.specs.declared.cluster.Identity.{Identity}
+use Rattle.rr_folders.specs.declared.cluster.Cluster.{Cluster}
+use Rattle.rr_folders.specs.declared.cluster.Mark.{Mark}
+use Rattle.rr_folders.specs.declared.cluster.Digest.{Digest}
+use Rattle.rr_folders.specs.declared.cluster.Reached.{Reached}
+use Rattle.rr_folders.specs.declared.cluster.Course.{Course}
 
 -- two numbers of 64 bits
 pub record IsIdentity (i : Identity) : Type 0 where

@@ -1,12 +1,12 @@
 -- What the first bytes of a disk's areas say of its node.
 use Rattle.std.specs.Prelude.{ℕ, ◌+◌, ◌*◌, ◌==◌, nat_lt, nat_le, ◌&&◌, if◌then◌else◌, List, [], ◌∷◌}
 use Rattle.rr_types.specs.Limits.{max_nodes}
-use Rattle.rr_cluster.specs.declared.front.AreaFront.{AreaFront}
-use Rattle.rr_cluster.specs.declared.front.AreaFront.TheVariants.{Missing, Empty, Unformatted, Cut, Formatted}
-use Rattle.rr_cluster.specs.declared.front.Content.{Content}
-use Rattle.rr_cluster.specs.declared.front.Content.TheVariants as contents
-use Rattle.rr_cluster.specs.declared.front.Active.{Active}
-use Rattle.rr_cluster.specs.declared.front.Active.TheVariants as actives
+use Rattle.rr_folders.specs.declared.front.AreaFront.{AreaFront}
+use Rattle.rr_folders.specs.declared.front.AreaFront.TheVariants.{Missing, Empty, Unformatted, Cut, Formatted}
+use Rattle.rr_folders.specs.declared.front.Content.{Content}
+use Rattle.rr_folders.specs.declared.front.Content.TheVariants as contents
+use Rattle.rr_folders.specs.declared.front.Active.{Active}
+use Rattle.rr_folders.specs.declared.front.Active.TheVariants as actives
 
 -- an area that is formatted, of this length: its first frame has a gate, four bytes of length, a payload of that length and
 -- the next gate, and the payload names the node, the number of nodes and the epoch

@@ -3,7 +3,7 @@
 ghost use Rattle.std.specs.Prelude.{◌≡◌, ◌+◌, ◌≤◌, ◌<◌, length, option_map, Option, Some, None};
 ghost use Rattle.std.specs.List.{list_all};
 ghost use Rattle.rr_types.specs.Limits.{max_nodes};
-ghost use Rattle.rr_cluster.specs.Judging.{mark_fault, owner_fault, loss_fault, course_of, lapse_of, lapse_fault, forgetful_fault, disk_fault, fault_of, first_fault, is_blank, is_fresh, first_identity, verdict_by_file, verdict_by_folders, verdict_of, Guards};
+ghost use Rattle.rr_folders.specs.Judging.{mark_fault, owner_fault, loss_fault, course_of, lapse_of, lapse_fault, forgetful_fault, disk_fault, fault_of, first_fault, is_blank, is_fresh, first_identity, verdict_by_file, verdict_by_folders, verdict_of, Guards};
 
 use crate::cluster::{Cluster, Course, Digest, Identity, Mark, Reached};
 use crate::front::Content;

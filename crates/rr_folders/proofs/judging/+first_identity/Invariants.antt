@@ -1,5 +1,5 @@
 use Rattle.std.proofs.Common.{length}
-use Rattle.rr_cluster.proofs.judging.+first_identity.Given as goal
+use Rattle.rr_folders.proofs.judging.+first_identity.Given as goal
 
 abbrev pub decreases-first_identity : goal.decreases-first_identity
 decreases-first_identity l = length l.found.now

@@ -1,11 +1,11 @@
 //! Reading the file of a cluster, and that of a node's folder.
 
 ghost use Rattle.std.specs.Prelude.{◌≡◌, ◌++◌, length, List, ℕ, [], Some, None, IfSome, MatchOption};
-ghost use Rattle.rr_cluster.specs.declared.cluster.Cluster.{Cluster as ClusterOf};
-ghost use Rattle.rr_cluster.specs.declared.cluster.Mark.{Mark as MarkOf};
-ghost use Rattle.rr_cluster.specs.Clusters.{IsCluster, IsMark};
-ghost use Rattle.rr_cluster.specs.ClusterTexts.{cluster_text, mark_text};
-ghost use Rattle.rr_cluster.specs.Reading.{line_at, identity_at, head_at, count_at, node_at, cluster_at, number_then_at, digest_at, reached_at, plain_mark_at, far_mark_at, mark_at};
+ghost use Rattle.rr_folders.specs.declared.cluster.Cluster.{Cluster as ClusterOf};
+ghost use Rattle.rr_folders.specs.declared.cluster.Mark.{Mark as MarkOf};
+ghost use Rattle.rr_folders.specs.Clusters.{IsCluster, IsMark};
+ghost use Rattle.rr_folders.specs.ClusterTexts.{cluster_text, mark_text};
+ghost use Rattle.rr_folders.specs.Reading.{line_at, identity_at, head_at, count_at, node_at, cluster_at, number_then_at, digest_at, reached_at, plain_mark_at, far_mark_at, mark_at};
 
 use crate::cluster::{Cluster, Course, Digest, Identity, Mark, Reached};
 use rr_text::text_read::{cut, number, set};

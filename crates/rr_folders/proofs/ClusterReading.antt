@@ -11,15 +11,15 @@ use Rattle.rr_text.proofs.CutLemmas.{AtLeast, bind_some, cut_again, cut_takes, p
 use Rattle.rr_text.proofs.NumberLemmas.{decimal_plain, number_again, number_takes, node_again, node_takes}
 use Rattle.rr_text.proofs.WordReading.{AtLeast-weaken, same_text, set_again, set_takes, set_plain}
 use Rattle.rr_text.proofs.EventReading.{joined}
-use Rattle.rr_cluster.specs.declared.cluster.Identity.{Identity}
-use Rattle.rr_cluster.specs.declared.cluster.Cluster.{Cluster}
-use Rattle.rr_cluster.specs.declared.cluster.Mark.{Mark}
-use Rattle.rr_cluster.specs.declared.cluster.Digest.{Digest}
-use Rattle.rr_cluster.specs.declared.cluster.Reached.{Reached}
-use Rattle.rr_cluster.specs.declared.cluster.Course.{Course}
-use Rattle.rr_cluster.specs.Clusters.{IsIdentity, IsCluster, IsDigest, IsReached, IsCourse, IsMark}
-use Rattle.rr_cluster.specs.ClusterTexts.{headed, cluster_line, cluster_text, digest_words, reached_words, far_words, mark_head, mark_line, mark_text}
-use Rattle.rr_cluster.specs.Reading.{line_from, line_at, identity_at, head_at, count_at, node_at, cluster_at, number_then_at, digest_at, reached_at, plain_mark_at, far_mark_at, mark_or, mark_at}
+use Rattle.rr_folders.specs.declared.cluster.Identity.{Identity}
+use Rattle.rr_folders.specs.declared.cluster.Cluster.{Cluster}
+use Rattle.rr_folders.specs.declared.cluster.Mark.{Mark}
+use Rattle.rr_folders.specs.declared.cluster.Digest.{Digest}
+use Rattle.rr_folders.specs.declared.cluster.Reached.{Reached}
+use Rattle.rr_folders.specs.declared.cluster.Course.{Course}
+use Rattle.rr_folders.specs.Clusters.{IsIdentity, IsCluster, IsDigest, IsReached, IsCourse, IsMark}
+use Rattle.rr_folders.specs.ClusterTexts.{headed, cluster_line, cluster_text, digest_words, reached_words, far_words, mark_head, mark_line, mark_text}
+use Rattle.rr_folders.specs.Reading.{line_from, line_at, identity_at, head_at, count_at, node_at, cluster_at, number_then_at, digest_at, reached_at, plain_mark_at, far_mark_at, mark_or, mark_at}
 
 -- a step that was taken only where a test held
 cond_some_of : {A : Type 0} (b : Bool) (x : Option A) (y : A) → cond b x None ≡ Some y → (b ≡ true) × (x ≡ Some y)

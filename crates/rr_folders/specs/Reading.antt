@@ -3,12 +3,12 @@ use Rattle.std.specs.Prelude.{ℕ, if◌then◌else◌, List, [], ◌∷◌, cod
 use Rattle.std.specs.Str.{bytes_eq}
 use Rattle.rr_text.specs.Reading.{◌>>=◌, cut_at, number_at, nodes_at, set_at}
 use Rattle.rr_text.specs.Reading.{node_at as node_of_at}
-use Rattle.rr_cluster.specs.declared.cluster.Identity.{Identity}
-use Rattle.rr_cluster.specs.declared.cluster.Cluster.{Cluster}
-use Rattle.rr_cluster.specs.declared.cluster.Mark.{Mark}
-use Rattle.rr_cluster.specs.declared.cluster.Digest.{Digest}
-use Rattle.rr_cluster.specs.declared.cluster.Reached.{Reached}
-use Rattle.rr_cluster.specs.declared.cluster.Course.{Course}
+use Rattle.rr_folders.specs.declared.cluster.Identity.{Identity}
+use Rattle.rr_folders.specs.declared.cluster.Cluster.{Cluster}
+use Rattle.rr_folders.specs.declared.cluster.Mark.{Mark}
+use Rattle.rr_folders.specs.declared.cluster.Digest.{Digest}
+use Rattle.rr_folders.specs.declared.cluster.Reached.{Reached}
+use Rattle.rr_folders.specs.declared.cluster.Course.{Course}
 
 -- the text before a line feed, where nothing stands behind that
 abbrev pub line_from : List ℕ × List ℕ → Option (List ℕ)

@@ -3,21 +3,21 @@ use Rattle.std.proofs.Common.{◌≡◌, ◌⊎◌, inl, inr, ◌||◌, ℕ, ◌
 use Rattle.std.specs.List.{list_all}
 use Rattle.std.proofs.lemmas.Bool.{and_parts, eqb-true}
 use Rattle.rr_types.specs.Nodes.{has_member}
-use Rattle.rr_cluster.specs.declared.cluster.Identity.{Identity}
-use Rattle.rr_cluster.specs.declared.cluster.Cluster.{Cluster}
-use Rattle.rr_cluster.specs.declared.cluster.Mark.{Mark}
-use Rattle.rr_cluster.specs.declared.cluster.Digest.{Digest}
-use Rattle.rr_cluster.specs.declared.cluster.Reached.{Reached}
-use Rattle.rr_cluster.specs.declared.cluster.Course.{Course}
-use Rattle.rr_cluster.specs.declared.front.Content.{Content}
-use Rattle.rr_cluster.specs.declared.front.Content.TheVariants as contents
-use Rattle.rr_cluster.specs.declared.judging.Found.{Found}
-use Rattle.rr_cluster.specs.declared.judging.Fault.{Fault}
-use Rattle.rr_cluster.specs.declared.judging.Fault.TheVariants.{OtherNode, OtherNodes, OtherCluster, Older}
-use Rattle.rr_cluster.specs.declared.judging.Verdict.{Verdict}
-use Rattle.rr_cluster.specs.declared.judging.Verdict.TheVariants.{Open, Begin, TakeOn, Refused}
-use Rattle.rr_cluster.specs.Clusters.{same_identity, same_digest, reaches}
-use Rattle.rr_cluster.specs.Judging.{mark_fault, owner_fault, loss_fault, unmarked_fault, ◌or_else◌, course_of, lapse_of, lapse_fault, forgetful_fault, disk_fault, fault_of, at_or, first_fault, refused_or, is_blank, is_unmarked, is_fresh, first_identity, identity_or, verdict_of, Each, HasDisk, IsMarked, IsAsFar, KeepsItsMark, KeepsItsDisk, IsFresh, Guards}
+use Rattle.rr_folders.specs.declared.cluster.Identity.{Identity}
+use Rattle.rr_folders.specs.declared.cluster.Cluster.{Cluster}
+use Rattle.rr_folders.specs.declared.cluster.Mark.{Mark}
+use Rattle.rr_folders.specs.declared.cluster.Digest.{Digest}
+use Rattle.rr_folders.specs.declared.cluster.Reached.{Reached}
+use Rattle.rr_folders.specs.declared.cluster.Course.{Course}
+use Rattle.rr_folders.specs.declared.front.Content.{Content}
+use Rattle.rr_folders.specs.declared.front.Content.TheVariants as contents
+use Rattle.rr_folders.specs.declared.judging.Found.{Found}
+use Rattle.rr_folders.specs.declared.judging.Fault.{Fault}
+use Rattle.rr_folders.specs.declared.judging.Fault.TheVariants.{OtherNode, OtherNodes, OtherCluster, Older}
+use Rattle.rr_folders.specs.declared.judging.Verdict.{Verdict}
+use Rattle.rr_folders.specs.declared.judging.Verdict.TheVariants.{Open, Begin, TakeOn, Refused}
+use Rattle.rr_folders.specs.Clusters.{same_identity, same_digest, reaches}
+use Rattle.rr_folders.specs.Judging.{mark_fault, owner_fault, loss_fault, unmarked_fault, ◌or_else◌, course_of, lapse_of, lapse_fault, forgetful_fault, disk_fault, fault_of, at_or, first_fault, refused_or, is_blank, is_unmarked, is_fresh, first_identity, identity_or, verdict_of, Each, HasDisk, IsMarked, IsAsFar, KeepsItsMark, KeepsItsDisk, IsFresh, Guards}
 
 -- ---- one folder
 

@@ -2,19 +2,19 @@
 use Rattle.std.specs.Prelude.{◌≡◌, ◌⊎◌, ◌||◌, nat_lt, ℕ, ◌+◌, ◌==◌, ◌&&◌, if◌then◌else◌, Bool, true, false, List, [], ◌∷◌, Option, None, Some}
 use Rattle.std.specs.List.{list_all}
 use Rattle.rr_types.specs.Nodes.{has_member}
-use Rattle.rr_cluster.specs.declared.cluster.Identity.{Identity}
-use Rattle.rr_cluster.specs.declared.cluster.Cluster.{Cluster}
-use Rattle.rr_cluster.specs.declared.cluster.Mark.{Mark}
-use Rattle.rr_cluster.specs.declared.cluster.Reached.{Reached}
-use Rattle.rr_cluster.specs.declared.cluster.Course.{Course}
-use Rattle.rr_cluster.specs.declared.front.Content.{Content}
-use Rattle.rr_cluster.specs.declared.front.Content.TheVariants as contents
-use Rattle.rr_cluster.specs.declared.judging.Found.{Found}
-use Rattle.rr_cluster.specs.declared.judging.Fault.{Fault}
-use Rattle.rr_cluster.specs.declared.judging.Fault.TheVariants.{Missing, Blank, Cut, OtherNode, OtherNodes, OtherCluster, Unmarked, Older, Shorter, Altered}
-use Rattle.rr_cluster.specs.declared.judging.Verdict.{Verdict}
-use Rattle.rr_cluster.specs.declared.judging.Verdict.TheVariants.{Open, Begin, TakeOn, Refused}
-use Rattle.rr_cluster.specs.Clusters.{same_identity, reaches}
+use Rattle.rr_folders.specs.declared.cluster.Identity.{Identity}
+use Rattle.rr_folders.specs.declared.cluster.Cluster.{Cluster}
+use Rattle.rr_folders.specs.declared.cluster.Mark.{Mark}
+use Rattle.rr_folders.specs.declared.cluster.Reached.{Reached}
+use Rattle.rr_folders.specs.declared.cluster.Course.{Course}
+use Rattle.rr_folders.specs.declared.front.Content.{Content}
+use Rattle.rr_folders.specs.declared.front.Content.TheVariants as contents
+use Rattle.rr_folders.specs.declared.judging.Found.{Found}
+use Rattle.rr_folders.specs.declared.judging.Fault.{Fault}
+use Rattle.rr_folders.specs.declared.judging.Fault.TheVariants.{Missing, Blank, Cut, OtherNode, OtherNodes, OtherCluster, Unmarked, Older, Shorter, Altered}
+use Rattle.rr_folders.specs.declared.judging.Verdict.{Verdict}
+use Rattle.rr_folders.specs.declared.judging.Verdict.TheVariants.{Open, Begin, TakeOn, Refused}
+use Rattle.rr_folders.specs.Clusters.{same_identity, reaches}
 
 -- ---- one folder
 

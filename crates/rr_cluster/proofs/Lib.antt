@@ -1,2 +1,0 @@
-pub mod ClusterReading
-pub mod Guarding

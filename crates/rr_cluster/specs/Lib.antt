@@ -1,5 +1,0 @@
-pub mod Clusters
-pub mod ClusterTexts
-pub mod Fronts
-pub mod Judging
-pub mod Reading
