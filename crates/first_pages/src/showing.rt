@@ -10,6 +10,7 @@ use crate::{
 };
 use rr_core::recover;
 use rr_disk::MemDisk;
+use rr_folders::Reading;
 use rr_journal::Journal;
 use rr_locked::Locked;
 use rr_node::Node;
@@ -22,7 +23,6 @@ use rr_types::{
     Body, Command, Fact, Group, Instance, Message, Name, NodeId, Nodes, Op, Refusal, RequestNo,
     made_of,
 };
-use rr_verify::Reading;
 use rr_window::{NewList, Sight, WindowName, open};
 use std::alloc::Global;
 use std::marker::Brand;
@@ -93,7 +93,7 @@ pub fn show_disks(rt: &HostRuntime, instance: Instance, command: &Command) {
     );
     print_text(
         rt,
-        "rr_verify",
+        "rr_folders",
         verify::verdict(alloc, &[Reading::Blank]).ok(),
     );
 }

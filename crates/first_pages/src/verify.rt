@@ -1,6 +1,6 @@
-//! What the first page of `rr_verify` shows.
+//! What the first page of `rr_folders` shows.
 
-use rr_verify::{Form, Reading, verdict_text, verify};
+use rr_folders::{Form, Reading, verdict_text, verify};
 use std::alloc::{AllocError, Global};
 
 /// Whether the folders of a cluster agree, in words. `read_disk` makes the reading of a folder.

@@ -3,12 +3,12 @@ use Rattle.std.proofs.Common.{◌≡◌, ◌∙◌, ℕ, zero, suc, ◌≤◌, B
 use Rattle.std.proofs.lemmas.Bool.{false≢true}
 use Rattle.rr_stream.specs.Streams.{Printing}
 use Rattle.rr_words.specs.declared.tasks.Form.{Form}
-use Rattle.rr_verify.specs.declared.verdict.Verdict.{Verdict}
-use Rattle.rr_verify.specs.Agreement.{Agree, HaveOneList, clashes_from}
-use Rattle.rr_verify.specs.Texts.{verdict_text}
+use Rattle.rr_folders.specs.declared.verdict.Verdict.{Verdict}
+use Rattle.rr_folders.specs.Agreement.{Agree, HaveOneList, clashes_from}
+use Rattle.rr_folders.specs.Texts.{verdict_text}
 use Rattle.rr_cli.specs.Ends.{Prints, EndsOnVerification, verified, differing}
 use Rattle.std.specs.List.{AllByRecursion}
-use Rattle.rr_verify.specs.declared.folder.Reading.{Reading}
+use Rattle.rr_folders.specs.declared.verify_folder.Reading.{Reading}
 use Rattle.rr_cli.specs.Clusters.{IsRead, AreRead, form_in, unlike}
 
 -- one more

@@ -11,12 +11,12 @@ use Rattle.rr_text.specs.Scripted.{IsScript}
 use Rattle.rr_text.specs.ScriptTexts.{script_text}
 use Rattle.rr_words.specs.declared.tasks.Form.{Form}
 use Rattle.rr_words.specs.declared.tasks.Form.TheVariants.{Plain, Json}
-use Rattle.rr_verify.specs.declared.fields.Form as code
-use Rattle.rr_verify.specs.declared.fields.Form.TheVariants as forms
-use Rattle.rr_verify.specs.declared.folder.Reading.{Reading}
-use Rattle.rr_verify.specs.declared.folder.Reading.TheVariants.{Facts, Blank, Refused}
-use Rattle.rr_verify.specs.Folders.{reading_of}
-use Rattle.rr_verify.specs.Exports.{commands_of}
+use Rattle.rr_folders.specs.declared.fields.Form as code
+use Rattle.rr_folders.specs.declared.fields.Form.TheVariants as forms
+use Rattle.rr_folders.specs.declared.verify_folder.Reading.{Reading}
+use Rattle.rr_folders.specs.declared.verify_folder.Reading.TheVariants.{Facts, Blank, Refused}
+use Rattle.rr_folders.specs.Folders.{reading_of}
+use Rattle.rr_folders.specs.Exports.{commands_of}
 
 -- what was read of a folder: areas of some bytes; or it couldn't be read
 abbrev pub IsRead : Reading → Type 0

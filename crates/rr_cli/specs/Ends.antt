@@ -37,9 +37,9 @@ use Rattle.rr_cli.specs.Finishing.{finished_by, IsFinishedDraw}
 use Rattle.rr_words.specs.Tasks.{CutWords, RandomWords, ShellWords, View, Task, Simulate, Viewing, Show, Random, Audit, Run, Shell, Sweep, Draw, Migrate, Verify, Export}
 use Rattle.rr_words.specs.declared.tasks.Form.{Form}
 use Rattle.rr_words.specs.declared.tasks.Form.TheVariants.{Plain, Json}
-use Rattle.rr_verify.specs.declared.folder.Reading as folder
-use Rattle.rr_verify.specs.Agreement.{Agree, AllAlike, HaveOneList, clashes_from, longest_decided}
-use Rattle.rr_verify.specs.Texts.{verdict_text}
+use Rattle.rr_folders.specs.declared.verify_folder.Reading as folder
+use Rattle.rr_folders.specs.Agreement.{Agree, AllAlike, HaveOneList, clashes_from, longest_decided}
+use Rattle.rr_folders.specs.Texts.{verdict_text}
 use Rattle.rr_cli.specs.Clusters.{AreRead, HoldsNothing, IsExportOf, form_in, unlike}
 use Rattle.rr_cli.specs.Migrations.{IsUnmigrated}
 use Rattle.rr_cli.specs.Refusals.{status_of}

@@ -6,16 +6,15 @@ ghost use Rattle.std.specs.Io.KnownBytes.{Keeps};
 ghost use Rattle.rr_types.specs.declared.refusal.Refusal.TheVariants.{OutOfMemory};
 ghost use Rattle.rr_cli.specs.Ends.{EndsOnExport, EndsOnDir};
 ghost use Rattle.rr_cli.specs.Clusters.{AreRead, HoldsNothing, IsExportOf};
-ghost use Rattle.rr_verify.specs.Agreement.{AllAlike, longest_decided};
+ghost use Rattle.rr_folders.specs.Agreement.{AllAlike, longest_decided};
 
 use crate::folder_faults::end_by_unlocked;
 use crate::folders::{end_without_dir, print_folder_faults, read_folders};
 use crate::refusals::end_by_refusal;
 use crate::streams::end_by_text;
-use rr_folders::Lockable;
+use rr_folders::{Lockable, Reading, decided_text, export, longest_decided, verify};
 use rr_stream::Sink;
 use rr_types::{Command, Nodes, Refusal};
-use rr_verify::{Reading, decided_text, export, longest_decided, verify};
 use std::alloc::{AllocError, Global};
 use std::io::Write;
 use std::os::unix::fs::FileExt;

@@ -5,9 +5,8 @@ ghost use Rattle.std.specs.List.{AllByRecursion};
 ghost use Rattle.rr_cli.specs.Clusters.{IsRead, AreRead};
 
 use crate::folder_faults::print_folder_fault;
-use rr_folders::{Closed, Lockable, Shares, read_only_disk, share_cluster};
+use rr_folders::{Closed, Lockable, Reading, Shares, read_disk, read_only_disk, share_cluster};
 use rr_types::{MAX_NODES, Refusal};
-use rr_verify::{Reading, read_disk};
 use std::alloc::AllocError;
 use std::io;
 use std::io::Write;

@@ -9,10 +9,9 @@ use crate::folder_faults::end_by_unlocked;
 use crate::folders::{end_without_dir, print_folder_faults, read_folders};
 use crate::refusals::end_by_refusal;
 use crate::streams::end_by_text;
-use rr_folders::Lockable;
+use rr_folders::{Lockable, Reading, Verdict, verdict_text, verify};
 use rr_stream::Sink;
 use rr_types::Refusal;
-use rr_verify::{Reading, Verdict, verdict_text, verify};
 use rr_words::Form;
 use std::alloc::{AllocError, Global};
 use std::io::Write;
@@ -20,12 +19,12 @@ use std::os::unix::fs::FileExt;
 use std::rt::Files;
 
 // How the form of the words is that of the fields.
-fn form_in(form: Form) -> rr_verify::Form
+fn form_in(form: Form) -> rr_folders::Form
     ensures { result ≡ form_in form }
 {
     match form {
-        Form::Plain => rr_verify::Form::Words,
-        Form::Json => rr_verify::Form::Json,
+        Form::Plain => rr_folders::Form::Words,
+        Form::Json => rr_folders::Form::Json,
     }
 }
 

@@ -6,3 +6,7 @@ pub mod ClusterTexts
 pub mod Fronts
 pub mod Judging
 pub mod Reading
+pub mod Folders
+pub mod Agreement
+pub mod Exports
+pub mod Texts

@@ -1,6 +1,6 @@
 use Rattle.std.proofs.Common.{◌≡◌, ◌∙◌, List, ℕ, ap, refl, subst}
-use Rattle.rr_verify.specs.declared.fields.Form as fields
-use Rattle.rr_verify.specs.Texts.{verdict_text}
+use Rattle.rr_folders.specs.declared.fields.Form as fields
+use Rattle.rr_folders.specs.Texts.{verdict_text}
 use Rattle.rr_cli.specs.Clusters.{form_in}
 use Rattle.rr_cli.specs.Ends.{Prints, unverified}
 use Rattle.rr_cli.proofs.FolderLemmas.{agreed_ends, disagreed_ends}

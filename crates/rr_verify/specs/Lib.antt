@@ -1,4 +1,0 @@
-pub mod Folders
-pub mod Agreement
-pub mod Exports
-pub mod Texts
