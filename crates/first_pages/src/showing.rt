@@ -259,7 +259,7 @@ pub fn show_program(rt: &HostRuntime) {
         files::length_of(alloc, files, "one.tape").ok(),
     );
     let heard = talk::next_line(alloc, &mut Counted::new(&b"look printer\nquit\n"[..]));
-    print_text(rt, "rr_talk", heard.unwrap_or(None));
+    print_text(rt, "rr_shell", heard.unwrap_or(None));
     if let Ok(nodes) = Nodes::new(3) {
         print(
             rt,

@@ -1,7 +1,7 @@
-//! What the first page of `rr_talk` shows: the hearing of a line. A whole talk needs nodes that run, as `rr_run` has them.
+//! What the first page of `rr_shell` shows: the hearing of a line. A whole talk needs nodes that run, as `rr_run` has them.
 
+use rr_shell::{Heard, hear};
 use rr_stream::Source;
-use rr_talk::{Heard, hear};
 use std::alloc::Global;
 use std::io;
 

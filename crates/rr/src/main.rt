@@ -3,8 +3,8 @@
 
 use rr_explain::Shown;
 use rr_run::run;
+use rr_shell::Prompted;
 use rr_stream::{Counted, HostFiles, Watched};
-use rr_talk::Prompted;
 use std::io::IsTerminal;
 use std::process::ExitCode;
 use std::{env, io};

@@ -6,7 +6,7 @@ use Rattle.rr_types.specs.declared.command.Command.{Command}
 use Rattle.rr_window.specs.declared.change.Change.{Change}
 use Rattle.rr_window.specs.Changes.{change_of, told, changes_with}
 use Rattle.rr_window.specs.Watches.{IsWatched}
-use Rattle.rr_talk.specs.Watches.{IsPiece}
+use Rattle.rr_shell.specs.Watches.{IsPiece}
 use Rattle.rr_run.specs.declared.news.News.{News}
 use Rattle.rr_run.specs.News.{told_by}
 

@@ -5,8 +5,8 @@ use Rattle.rr_types.specs.declared.refusal.Refusal.{Refusal}
 use Rattle.rr_types.specs.declared.refusal.Refusal.TheVariants.{Device, OutOfMemory}
 use Rattle.rr_stream.specs.Streams.{Printing, Reading}
 use Rattle.rr_shell.specs.declared.troubles.Trouble.{Trouble}
-use Rattle.rr_talk.specs.declared.talking.Stop.{Stop}
-use Rattle.rr_talk.specs.Talks.{Talks}
+use Rattle.rr_shell.specs.declared.talking.Stop.{Stop}
+use Rattle.rr_shell.specs.Talks.{Talks}
 use Rattle.rr_run.specs.Shells.{IsRefusedBy, EndsOnTalk, shell_did, EndsOnShell, EndsOnLines, EndsOnEither, lines_text, spoken, talked, failed, broken_off}
 
 pub ends_so : (json strict : Bool) (n : ℕ) (from to : Reading) (old new : Printing) (said : Result (Option Trouble) Stop) (ran : Option Refusal) (status : ℕ) → Talks shell_did json strict n from to old new said → EndsOnTalk said ran status → EndsOnShell json strict n from to status old new

@@ -5,8 +5,8 @@ use Rattle.rr_types.specs.declared.command.RequestNo.{RequestNo}
 use Rattle.rr_types.specs.declared.refusal.Refusal.{Refusal}
 use Rattle.rr_shell.specs.declared.outcome.Outcome.{Outcome}
 use Rattle.rr_shell.specs.declared.outcome.Outcome.TheVariants.{Nothing}
-use Rattle.rr_talk.specs.Deeds as deeds
-use Rattle.rr_talk.specs.Deeds.{Deed, waits, submits, repeats, catches_up, looks, lists, observes, finds_off, stops, starts, snaps, tells}
+use Rattle.rr_shell.specs.Deeds as deeds
+use Rattle.rr_shell.specs.Deeds.{Deed, waits, submits, repeats, catches_up, looks, lists, observes, finds_off, stops, starts, snaps, tells}
 use Rattle.rr_run.specs.declared.asking.Question.{Question}
 use Rattle.rr_run.specs.declared.asking.Question.TheVariants as asks
 use Rattle.rr_run.specs.declared.asking.Told.{Told}

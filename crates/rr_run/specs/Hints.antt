@@ -4,8 +4,8 @@ use Rattle.rr_text.specs.declared.answer.Answer.TheVariants.{Unacknowledged}
 use Rattle.rr_shell.specs.declared.outcome.Outcome.{Outcome}
 use Rattle.rr_shell.specs.declared.outcome.Outcome.TheVariants.{Answered}
 use Rattle.rr_shell.specs.Texts.{left_behind, is_nearly_full}
-use Rattle.rr_talk.specs.declared.answering.Hint.{Hint}
-use Rattle.rr_talk.specs.declared.answering.Hint.TheVariants.{Again, Left}
+use Rattle.rr_shell.specs.declared.answering.Hint.{Hint}
+use Rattle.rr_shell.specs.declared.answering.Hint.TheVariants.{Again, Left}
 use Rattle.rr_run.specs.Boards.{Call, IsTold}
 use Rattle.rr_run.specs.declared.asking.Question.{Question}
 use Rattle.rr_run.specs.declared.asking.Told.{Told}

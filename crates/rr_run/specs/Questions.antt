@@ -9,7 +9,7 @@ use Rattle.rr_shell.specs.declared.listing.Listing.{Listing}
 use Rattle.rr_shell.specs.declared.outcome.Outcome.{Outcome}
 use Rattle.rr_shell.specs.declared.outcome.Outcome.TheVariants.{Answered, ListFull, Used, Nothing}
 use Rattle.rr_shell.specs.Listings.{is_listing_at}
-use Rattle.rr_talk.specs.Talks.{is_sight_at}
+use Rattle.rr_shell.specs.Talks.{is_sight_at}
 use Rattle.rr_run.specs.declared.asking.Question.{Question}
 use Rattle.rr_run.specs.declared.asking.Question.TheVariants as asks
 use Rattle.rr_run.specs.declared.asking.Told.{Told}

@@ -7,9 +7,9 @@ use Rattle.rr_stream.specs.Streams.{Printing, Reading}
 use Rattle.rr_words.specs.Tasks.{ShellWords}
 use Rattle.rr_shell.specs.declared.troubles.Trouble.{Trouble}
 use Rattle.rr_shell.specs.Troubles.{ending_status}
-use Rattle.rr_talk.specs.declared.talking.Stop.{Stop}
-use Rattle.rr_talk.specs.Deeds.{Deed}
-use Rattle.rr_talk.specs.Talks.{HasTalked, BreaksOff}
+use Rattle.rr_shell.specs.declared.talking.Stop.{Stop}
+use Rattle.rr_shell.specs.Deeds.{Deed}
+use Rattle.rr_shell.specs.Talks.{HasTalked, BreaksOff}
 use Rattle.rr_cli.specs.Randoms.{IsNumberIn}
 use Rattle.rr_cli.specs.Refusals.{status_of}
 use Rattle.rr_run.specs.Boards.{DidBy, any_call}

@@ -6,7 +6,7 @@ use Rattle.rr_window.specs.Sights.{bindings_with}
 use Rattle.rr_folders.specs.Requests.{greatest_in}
 use Rattle.rr_threads.specs.Asking.{Asking, IsSeen}
 use Rattle.rr_threads.specs.Summaries.{IsSummary}
-use Rattle.rr_talk.specs.Watches.{bytes_of}
+use Rattle.rr_shell.specs.Watches.{bytes_of}
 use Rattle.rr_run.specs.declared.asking.Question.{Question}
 use Rattle.rr_run.specs.declared.asking.Question.TheVariants as asks
 use Rattle.rr_run.specs.declared.asking.Told.{Told}

@@ -2,14 +2,13 @@
 
 ghost use Rattle.std.specs.Prelude.{◌≡◌, true, Some};
 ghost use Rattle.rr_shell.specs.Listings.{is_listing_at};
-ghost use Rattle.rr_talk.specs.Talks.{is_reply_at, is_outcome_at, is_sight_at, request_of, IsOf};
-ghost use Rattle.rr_talk.specs.Watches.{bytes_of};
+ghost use Rattle.rr_shell.specs.Talks.{is_reply_at, is_outcome_at, is_sight_at, request_of, IsOf};
+ghost use Rattle.rr_shell.specs.Watches.{bytes_of};
 ghost use Rattle.rr_run.specs.Questions.{node_of, answer_in, outcome_at, outcome_in, sight_in, listing_in, is_written, summary_in};
 
 use crate::news::NewEar;
 use crate::used::Greatest;
-use rr_shell::{Listing, Outcome, is_listing_at};
-use rr_talk::is_sight_at;
+use rr_shell::{Listing, Outcome, is_listing_at, is_sight_at};
 use rr_text::Answer;
 use rr_threads::Written;
 use rr_types::{Command, Name, NodeId, NodeSummary, Reply, RequestNo, Value, made_of};

@@ -2,7 +2,7 @@
 
 ghost use Rattle.std.specs.Prelude.{◌≡◌, if◌then◌else◌, None, Some};
 ghost use Rattle.std.specs.Thread.{IsSend, IsSync};
-ghost use Rattle.rr_talk.specs.Talks.{Talks};
+ghost use Rattle.rr_shell.specs.Talks.{Talks};
 ghost use Rattle.rr_run.specs.Endings.{refusal_of};
 
 use crate::ending::Ended;
@@ -10,9 +10,8 @@ use crate::post::Post;
 use crate::teller::Teller;
 use rr_disk::Disk;
 use rr_locked::Open;
-use rr_shell::Trouble;
+use rr_shell::{Asked, Prompting, Stop, Trouble, talk};
 use rr_stream::Sink;
-use rr_talk::{Asked, Prompting, Stop, talk};
 use rr_threads::run_switched;
 use rr_types::{Nodes, Refusal};
 use std::sync::Wait;

@@ -1,9 +1,9 @@
 //! The nodes that a shell asks, through its board.
 
 ghost use Rattle.std.specs.Prelude.{◌≡◌, ◌<◌, ◌++◌, true, None, IfOk, IfSome, OnOk};
-ghost use Rattle.rr_talk.specs.Deeds.{waits};
-ghost use Rattle.rr_talk.specs.Talks.{is_outcome_at, IsOf, IsKept, IsSyncBy};
-ghost use Rattle.rr_talk.specs.Watches.{bytes_of, IsPiece};
+ghost use Rattle.rr_shell.specs.Deeds.{waits};
+ghost use Rattle.rr_shell.specs.Talks.{is_outcome_at, IsOf, IsKept, IsSyncBy};
+ghost use Rattle.rr_shell.specs.Watches.{bytes_of, IsPiece};
 ghost use Rattle.rr_run.specs.Boards.{Came, DidBy};
 ghost use Rattle.rr_run.specs.Ears.{heard_by};
 ghost use Rattle.rr_run.specs.Hints.{hint_of_room, hint_behind, warned_behind, IsHinted};
@@ -13,8 +13,7 @@ use crate::asking::{Question, Told, is_written, listing_in, outcome_in, sight_in
 use crate::board::{Board, ask, switch, wait_until_begun};
 use crate::news::{Ear, next_changes};
 use rr_folders::{Block, Locks};
-use rr_shell::{Listing, NodeStatus, Outcome, is_nearly_full, left_behind};
-use rr_talk::{Asked, Hint};
+use rr_shell::{Asked, Hint, Listing, NodeStatus, Outcome, is_nearly_full, left_behind};
 use rr_text::Answer;
 use rr_types::{Command, Name, NodeId, Nodes, Op, Refusal, Reply, RequestNo, Value, made_of};
 use rr_window::Change;

@@ -6,7 +6,7 @@ ghost use Rattle.rr_run.specs.Shells.{IsNodesBy};
 use rr_cli::{ShellWords, nodes_of};
 use rr_folders::read_only_disk;
 use rr_journal::inspect;
-use rr_talk::Prompting;
+use rr_shell::Prompting;
 use rr_types::Nodes;
 use std::alloc::Global;
 use std::os::unix::fs::FileExt;

@@ -2,7 +2,7 @@
 
 ghost use Rattle.std.specs.Prelude.{◌≡◌, ◌++◌, [], true, IfOk, IfSome};
 ghost use Rattle.rtrb.specs.Ring.{received};
-ghost use Rattle.rr_talk.specs.Watches.{bytes_of, IsPiece};
+ghost use Rattle.rr_shell.specs.Watches.{bytes_of, IsPiece};
 ghost use Rattle.rr_run.specs.News.{told_by};
 
 use rr_types::{Name, NodeId};
@@ -22,7 +22,7 @@ pub(crate) struct Tells;
 
 impl Protocol<News> for Tells {
     ghost use Rattle.std.specs.Prelude.{◌++◌};
-    ghost use Rattle.rr_talk.specs.Watches.{bytes_of, IsPiece};
+    ghost use Rattle.rr_shell.specs.Watches.{bytes_of, IsPiece};
     ghost use Rattle.rr_run.specs.News.{told_by};
 
     ghost allows = { λ before news. IsPiece (bytes_of news.prefix) (told_by before ++ news.changes.items) };

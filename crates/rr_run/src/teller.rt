@@ -7,7 +7,7 @@ ghost use Rattle.rr_types.specs.declared.summary.NodeSummary.{NodeSummary};
 ghost use Rattle.rr_threads.specs.Asking.{IsAnswered};
 ghost use Rattle.rr_threads.specs.Summaries.{IsSummary};
 ghost use Rattle.rr_threads.specs.declared.desk.Written.{Written};
-ghost use Rattle.rr_talk.specs.Watches.{bytes_of};
+ghost use Rattle.rr_shell.specs.Watches.{bytes_of};
 ghost use Rattle.rr_run.specs.Submits.{outcome_by, IsOutcome};
 ghost use Rattle.rr_run.specs.Tellings.{IsGreatest, IsToldTo};
 

@@ -4,7 +4,7 @@ ghost use Rattle.std.specs.Prelude.{◌≡◌, ◌++◌, [], length, drop, IfOk,
 ghost use mathlib.Core.List.{IsPrefix};
 ghost use Rattle.rtrb.specs.Ring.{sent};
 ghost use Rattle.rr_window.specs.Changes.{changes_with};
-ghost use Rattle.rr_talk.specs.Watches.{bytes_of};
+ghost use Rattle.rr_shell.specs.Watches.{bytes_of};
 ghost use Rattle.rr_run.specs.News.{told_by};
 
 use crate::asking::bytes_of;

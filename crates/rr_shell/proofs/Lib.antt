@@ -1,1 +1,4 @@
 mod TextLemmas
+mod HearingLemmas
+mod TalkLemmas
+mod WatchLemmas

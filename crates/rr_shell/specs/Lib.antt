@@ -4,3 +4,7 @@ pub mod Listings
 pub mod Objects
 pub mod Texts
 pub mod Troubles
+pub mod Deeds
+pub mod Hearings
+pub mod Talks
+pub mod Watches

@@ -17,19 +17,30 @@
 //! ```
 #![tactic(auto)]
 
+mod answering;
+mod hearing;
 mod line_read;
 mod line_text;
 mod listing;
+mod looking;
 mod object_text;
 mod outcome;
+mod prompting;
 mod said_text;
+mod saying;
 mod shell_line;
+mod sign;
 mod status;
+mod talking;
 mod troubles;
+mod watching;
 
+pub use answering::{Asked, Hint, is_sight_at};
+pub use hearing::{Heard, hear};
 pub use line_read::read_shell_line;
 pub use listing::{Listing, is_listing_at};
 pub use outcome::{Outcome, push_used_text};
+pub use prompting::{Prompted, Prompting};
 pub use said_text::{
     say_answer, say_changed, say_down, say_fault, say_freed, say_help, say_late, say_listing,
     say_move, say_no_snapshot, say_outcome, say_snapshot, say_start, say_status, say_stop,
@@ -37,4 +48,5 @@ pub use said_text::{
 };
 pub use shell_line::{LineFault, MAX_LINE, ShellLine};
 pub use status::{NodeStatus, is_nearly_full, left_behind};
+pub use talking::{Stop, talk};
 pub use troubles::{Trouble, answer_trouble, listing_trouble, outcome_trouble, sync_trouble};

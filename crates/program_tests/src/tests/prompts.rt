@@ -1,8 +1,8 @@
 //! The prompt of `rr shell`.
 
 use rr_run::execute;
+use rr_shell::Prompted;
 use rr_stream::{Counted, HostFiles};
-use rr_talk::Prompted;
 use std::fs;
 
 /// The words of a shell with one node.

@@ -1,7 +1,7 @@
 use Rattle.std.proofs.Common.{sym}
 use Rattle.rtrb.specs.Ring.{sent}
 use Rattle.rr_window.specs.Watches.{IsWatched}
-use Rattle.rr_talk.specs.Watches.{bytes_of}
+use Rattle.rr_shell.specs.Watches.{bytes_of}
 use Rattle.rr_run.proofs.NewsLemmas.{news_on, piece_on, reaches_on}
 use Rattle.rr_run.proofs.watcher.Watcher.tell.Goals as goal
 

@@ -1,3 +1,0 @@
-mod HearingLemmas
-mod TalkLemmas
-mod WatchLemmas

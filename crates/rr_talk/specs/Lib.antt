@@ -1,4 +1,0 @@
-pub mod Deeds
-pub mod Hearings
-pub mod Talks
-pub mod Watches
