@@ -185,7 +185,7 @@ fn count_crashes(alloc: Global) -> Option<usize> {
 pub fn show_runs(rt: &HostRuntime) {
     let alloc = rt.alloc();
     let progress = &mut Counted::new(Vec::new(alloc));
-    print(rt, "rr_sweep", count_crashes(alloc));
+    print(rt, "rr_sim", count_crashes(alloc));
     print_begin(
         rt,
         "rr_account",

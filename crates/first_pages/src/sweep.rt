@@ -1,6 +1,6 @@
-//! What the first page of `rr_sweep` shows.
+//! What the first page of `rr_sim` shows.
 
-use rr_sweep::sweep;
+use rr_sim::sweep;
 use rr_text::Schedule;
 use rr_types::Refusal;
 use std::alloc::Global;

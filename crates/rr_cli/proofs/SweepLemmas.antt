@@ -12,10 +12,10 @@ use Rattle.rr_text.specs.declared.event.Event.{Event}
 use Rattle.rr_text.specs.Scheduled.{Scheduled, IsEvent, IsSchedule}
 use Rattle.rr_text.specs.ScheduleTexts.{schedule_text}
 use Rattle.rr_stream.specs.Streams.{Printing, IsFrontPrinted}
-use Rattle.rr_sweep.specs.declared.sweeping.SweepLine.{SweepLine}
-use Rattle.rr_sweep.specs.declared.sweeping.Sweeping.{Sweeping}
-use Rattle.rr_sweep.specs.Sweeps.{HasSwept, IsNext, IsSweep}
-use Rattle.rr_sweep.specs.SweepTexts.{sweep_line}
+use Rattle.rr_sim.specs.declared.sweeping.SweepLine.{SweepLine}
+use Rattle.rr_sim.specs.declared.sweeping.Sweeping.{Sweeping}
+use Rattle.rr_sim.specs.Sweeps.{HasSwept, IsNext, IsSweep}
+use Rattle.rr_sim.specs.SweepTexts.{sweep_line}
 use Rattle.rr_cli.specs.declared.sweep.Stop.{Stop}
 use Rattle.rr_cli.specs.declared.sweep.Stop.TheVariants.{Refused, Unprinted}
 use Rattle.rr_cli.specs.Ends as ends

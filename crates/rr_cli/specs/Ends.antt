@@ -16,9 +16,9 @@ use Rattle.rr_text.specs.TapeTexts.{tape_text, tape_line}
 use Rattle.rr_audit.specs.Audits as tapes
 use Rattle.rr_audit.specs.Audits.{IsTapeRun, StopsAt}
 use Rattle.rr_sim.specs.Told.{IsReportOn}
-use Rattle.rr_sweep.specs.declared.sweeping.SweepLine.{SweepLine}
-use Rattle.rr_sweep.specs.Sweeps.{IsSweep}
-use Rattle.rr_sweep.specs.SweepTexts.{sweep_line}
+use Rattle.rr_sim.specs.declared.sweeping.SweepLine.{SweepLine}
+use Rattle.rr_sim.specs.Sweeps.{IsSweep}
+use Rattle.rr_sim.specs.SweepTexts.{sweep_line}
 use Rattle.rr_draw.specs.declared.cut.Cut.{Cut}
 use Rattle.rr_types.specs.Counts.{Grew}
 use Rattle.rr_disk.specs.declared.area.Area.{Area}

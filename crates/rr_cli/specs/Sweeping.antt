@@ -5,8 +5,8 @@ use Rattle.rr_types.specs.declared.refusal.Refusal.TheVariants.{OutOfMemory}
 use Rattle.rr_types.specs.Counts.{Grew}
 use Rattle.rr_text.specs.declared.event.Event.{Event}
 use Rattle.rr_stream.specs.Streams.{Printing, IsFrontPrinted}
-use Rattle.rr_sweep.specs.declared.sweeping.SweepLine.{SweepLine}
-use Rattle.rr_sweep.specs.Sweeps.{IsSweep}
+use Rattle.rr_sim.specs.declared.sweeping.SweepLine.{SweepLine}
+use Rattle.rr_sim.specs.Sweeps.{IsSweep}
 use Rattle.rr_cli.specs.declared.sweep.Stop.{Stop}
 use Rattle.rr_cli.specs.declared.sweep.Stop.TheVariants.{Refused, Unprinted}
 use Rattle.rr_cli.specs.Ends.{sweep_text}

@@ -19,3 +19,10 @@ mod OpenedLaws
 pub mod CleanLaws
 pub mod ToldLaws
 mod DrawnLaws
+mod Alone
+mod Five
+mod InCluster
+mod Restarts
+mod Swept
+mod Texts
+mod AllEvents

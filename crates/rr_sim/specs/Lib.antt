@@ -3,3 +3,7 @@ pub mod Clusters
 pub mod Headline
 pub mod Random
 pub mod Told
+pub mod Endings
+pub mod Openings
+pub mod Sweeps
+pub mod SweepTexts

@@ -23,10 +23,15 @@
 
 mod chosen;
 mod cluster;
+mod ending;
+mod opening;
 mod random_events;
 mod random_text;
 mod simulator;
+mod sweeping;
 mod telling;
+mod text;
+mod whole;
 
 pub use chosen::decided_list;
 pub use cluster::{Cluster, shown};
@@ -35,4 +40,7 @@ pub use random_text::random_run;
 pub use rr_node::Stance;
 pub use rr_text::{BoundNames, Event, Fill, Happening, MAX_EVENTS, Report, ReportLine, Schedule};
 pub use simulator::{accepted, nodes_after, simulate};
+pub use sweeping::{SweepLine, Sweeping};
 pub use telling::{report_on, tell_read};
+pub use text::push_sweep_lines;
+pub use whole::{MAX_SWEPT_EVENTS, sweep, swept_too_far};

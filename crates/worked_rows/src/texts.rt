@@ -8,8 +8,8 @@ use crate::audits::print_audit;
 use crate::sweep::sweep;
 use rr_audit::Verdict;
 use rr_cli::{audit_on, print_refusal, report_on};
+use rr_sim::push_sweep_lines;
 use rr_stream::Counted;
-use rr_sweep::push_sweep_lines;
 use rr_text::{Schedule, Tape};
 use rr_types::Refusal;
 use std::alloc::Global;
@@ -94,7 +94,7 @@ fn print_areas(rt: &HostRuntime, path: &str, bytes: &[u8]) -> io::Result<()> {
 /// The sweep of the schedule of these bytes, with the words of seed 0.
 fn sweep_text(alloc: Global, bytes: &[u8]) -> Result<Vec<u8>, Refusal> {
     let schedule = Schedule::parse(alloc, bytes)?;
-    let lines = rr_sweep::sweep(alloc, schedule.nodes().count(), &schedule, 0)?;
+    let lines = rr_sim::sweep(alloc, schedule.nodes().count(), &schedule, 0)?;
     let mut text = Vec::new(alloc);
     push_sweep_lines(&mut text, lines.as_slice())?;
     Ok(text)

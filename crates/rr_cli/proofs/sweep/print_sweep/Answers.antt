@@ -1,7 +1,7 @@
 use Rattle.std.proofs.Common.{◌≡◌, ℕ, ◌+◌, ◌<◌, ◌≤◌, List, ◌++◌, [], ◌∷◌, length, get_or, drop, take, refl, subst, arith}
 use Rattle.std.proofs.lemmas.Result.{err_from_is_err_and}
 use Rattle.rr_text.specs.declared.event.Event.{Event}
-use Rattle.rr_sweep.specs.Sweeps.{HasSwept, IsNext}
+use Rattle.rr_sim.specs.Sweeps.{HasSwept, IsNext}
 use Rattle.rr_cli.proofs.SweepLemmas.{is_sweep, next_at, taken_more, split_at, printed_none, printed_more, stops_at}
 use Rattle.rr_cli.proofs.sweep.print_sweep.Goals as goal
 

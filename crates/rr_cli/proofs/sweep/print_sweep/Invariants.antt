@@ -1,5 +1,5 @@
 use Rattle.std.proofs.Common.{◌≡◌, ◌+◌, take}
-use Rattle.rr_sweep.specs.Sweeps.{HasSwept}
+use Rattle.rr_sim.specs.Sweeps.{HasSwept}
 use Rattle.rr_cli.specs.Sweeping.{IsPrintedBy}
 use Rattle.rr_cli.proofs.sweep.print_sweep.Given as goal
 

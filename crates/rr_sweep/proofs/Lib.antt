@@ -1,7 +1,0 @@
-mod Alone
-mod Five
-mod InCluster
-mod Restarts
-mod Swept
-mod Texts
-mod AllEvents

@@ -1,6 +1,0 @@
-use Rattle.std.proofs.Common.{◌≡◌, ◌++◌}
-use Rattle.rr_sweep.proofs.whole.append.Given as goal
-
--- the lines so far are appended
-abbrev pub invariant-loop-line : goal.invariant-loop-line
-invariant-loop-line l = l.lines.items ≡ l.initial.lines.items ++ l.yielded

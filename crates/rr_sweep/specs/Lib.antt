@@ -1,4 +1,0 @@
-pub mod Endings
-pub mod Openings
-pub mod Sweeps
-pub mod SweepTexts
