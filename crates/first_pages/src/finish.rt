@@ -1,6 +1,6 @@
-//! What the first page of `rr_finish` shows.
+//! What the first page of `rr_lively` shows.
 
-use rr_finish::finish_run;
+use rr_lively::finish_run;
 use rr_stream::Sink;
 use rr_types::Refusal;
 use std::alloc::Global;

@@ -206,7 +206,7 @@ pub fn show_runs(rt: &HostRuntime) {
     );
     print_begin(
         rt,
-        "rr_finish",
+        "rr_lively",
         finish::added(alloc, b"nodes 1\n", progress).ok(),
         "restart 0",
     );

@@ -32,7 +32,7 @@ use Rattle.rr_cli.specs.AuditObjects.{yes_object, no_object, no_status}
 use Rattle.rr_cli.specs.Randoms.{IsNumberIn, IsNumberOf, AreNumbers}
 use Rattle.rr_cli.specs.RandomObjects.{IsDrawnIn}
 use Rattle.rr_cli.specs.Cuts.{IsCutBy}
-use Rattle.rr_finish.specs.declared.finish.Ending.{Ending}
+use Rattle.rr_lively.specs.declared.finish.Ending.{Ending}
 use Rattle.rr_cli.specs.Finishing.{finished_by, IsFinishedDraw}
 use Rattle.rr_words.specs.Tasks.{CutWords, RandomWords, ShellWords, View, Task, Simulate, Viewing, Show, Random, Audit, Run, Shell, Sweep, Draw, Migrate, Verify, Export}
 use Rattle.rr_words.specs.declared.tasks.Form.{Form}

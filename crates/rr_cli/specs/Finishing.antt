@@ -1,9 +1,9 @@
 -- The finish of a schedule, told as text, and the status that it ends the program with.
 use Rattle.std.specs.Prelude.{◌≡◌, ℕ, zero, suc, Bool, true, false, List, [], ◌∷◌, ◌++◌, Option, codes}
 use Rattle.rr_text.specs.ReportTexts.{line}
-use Rattle.rr_finish.specs.declared.finish.Ending.{Ending}
-use Rattle.rr_finish.specs.declared.finish.Ending.TheVariants.{Finished, Full, Stuck}
-use Rattle.rr_finish.specs.Finishes.{IsFinish}
+use Rattle.rr_lively.specs.declared.finish.Ending.{Ending}
+use Rattle.rr_lively.specs.declared.finish.Ending.TheVariants.{Finished, Full, Stuck}
+use Rattle.rr_lively.specs.Finishes.{IsFinish}
 use Rattle.rr_cli.specs.Randoms.{IsDrawnText}
 
 -- the status where a schedule isn't finished, by the status of the printing

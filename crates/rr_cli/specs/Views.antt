@@ -10,8 +10,8 @@ use Rattle.rr_text.specs.ReportTexts.{report_text}
 use Rattle.rr_stream.specs.Streams.{Printing, Reading}
 use Rattle.rr_stream.specs.Files.{Readable, file_at, reading_of}
 use Rattle.rr_account.specs.Accounts.{Accounted, IsAccountOn}
-use Rattle.rr_finish.specs.declared.finish.Ending.{Ending}
-use Rattle.rr_finish.specs.Finishes.{IsFinish}
+use Rattle.rr_lively.specs.declared.finish.Ending.{Ending}
+use Rattle.rr_lively.specs.Finishes.{IsFinish}
 use Rattle.rr_cli.specs.Finishing.{finished_by}
 use Rattle.rr_cli.specs.Ends.{EndsBy, EndsOnInput, EndsOnEither, EndsOnTaped, Prints}
 use Rattle.rr_words.specs.declared.tasks.FinishView.{FinishView}

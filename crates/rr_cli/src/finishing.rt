@@ -12,7 +12,7 @@ use crate::refusals::{TextKind, end_by_fault, end_by_refusal};
 use crate::streams::end_by_text;
 use crate::views::{Shown, shown_text};
 use rr_account::account_on;
-use rr_finish::{Ending, Finish, finish_run};
+use rr_lively::{Ending, Finish, finish_run};
 use rr_stream::{FileReader, Sink, Source};
 use rr_types::Refusal;
 use rr_words::FinishView;

@@ -1,2 +1,3 @@
 mod IdleLaws
 pub mod LivelyLaws
+mod FinishLaws

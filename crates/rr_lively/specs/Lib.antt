@@ -1,1 +1,2 @@
 pub mod Lively
+pub mod Finishes

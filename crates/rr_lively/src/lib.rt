@@ -31,11 +31,16 @@
 
 mod choosing;
 mod faults;
+mod finish;
+mod going;
+mod known;
 mod lively;
 mod memory;
+mod plan;
 mod random_run;
 mod run;
 mod stances;
 
+pub use finish::{Ending, Finish, finish_run};
 pub use lively::{DEFAULT_FAULTS, Recipe, lively_run, lively_schedule};
 pub use run::may_stay;

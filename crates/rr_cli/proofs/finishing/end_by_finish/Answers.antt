@@ -1,5 +1,5 @@
 use Rattle.std.proofs.Common.{ℕ, sym, ap, ◌∙◌}
-use Rattle.rr_finish.specs.declared.finish.Ending.{Ending}
+use Rattle.rr_lively.specs.declared.finish.Ending.{Ending}
 use Rattle.rr_cli.specs.Finishing.{finished_by}
 use Rattle.rr_cli.proofs.finishing.end_by_finish.Goals as goal
 

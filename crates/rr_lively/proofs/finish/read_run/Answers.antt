@@ -1,8 +1,8 @@
 use Rattle.std.proofs.Common.{◌∙◌, ◌≤◌, List, [], ℕ, rules, refl, subst, sym}
 use Rattle.rr_sim.specs.Clusters.{Cluster, new_cluster}
 use Rattle.rr_sim.proofs.ToldLaws.{ToldSoFar, told_none, told_more}
-use Rattle.rr_finish.proofs.FinishLaws.{read_as, read_to}
-use Rattle.rr_finish.proofs.finish.read_run.Goals as goal
+use Rattle.rr_lively.proofs.FinishLaws.{read_as, read_to}
+use Rattle.rr_lively.proofs.finish.read_run.Goals as goal
 
 pub loop-report-init : goal.loop-report-init
 loop-report-init g c =

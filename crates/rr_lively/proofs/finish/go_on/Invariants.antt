@@ -1,7 +1,7 @@
 use Rattle.std.proofs.Common.{◌≡◌, ◌≤◌}
 use Rattle.rr_lively.specs.Lively.{IsSoFar}
-use Rattle.rr_finish.specs.Finishes.{Adds}
-use Rattle.rr_finish.proofs.finish.go_on.Given as goal
+use Rattle.rr_lively.specs.Finishes.{Adds}
+use Rattle.rr_lively.proofs.finish.go_on.Given as goal
 
 -- the events so far go on from those that were given
 abbrev pub invariant-loop-step : goal.invariant-loop-step

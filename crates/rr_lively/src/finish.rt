@@ -5,7 +5,7 @@ ghost use Rattle.rr_text.specs.Lines.{nodes_line, IsStop, IsFault};
 ghost use Rattle.rr_text.specs.Scheduled.{IsEvent};
 ghost use Rattle.rr_text.specs.ScheduleTexts.{event_line};
 ghost use Rattle.rr_lively.specs.Lively.{IsSoFar, IsScheduleTo};
-ghost use Rattle.rr_finish.specs.Finishes.{Adds, IsFinish};
+ghost use Rattle.rr_lively.specs.Finishes.{Adds, IsFinish};
 
 use crate::going::Going;
 use crate::plan::Plan;

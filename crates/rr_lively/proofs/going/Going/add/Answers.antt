@@ -1,6 +1,6 @@
 use Rattle.std.proofs.Common.{rules}
 use Rattle.rr_lively.proofs.LivelyLaws.{so_far_same, so_far_more}
-use Rattle.rr_finish.proofs.going.Going.add.Goals as goal
+use Rattle.rr_lively.proofs.going.Going.add.Goals as goal
 
 pub returns-then-may_stay-clause-so_far : goal.returns-then-may_stay-clause-so_far
 returns-then-may_stay-clause-so_far c =

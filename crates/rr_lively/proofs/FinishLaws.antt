@@ -16,7 +16,7 @@ use Rattle.rr_sim.proofs.DrawingLemmas.{each_of_both}
 use Rattle.rr_sim.proofs.ToldLaws.{ToldSoFar, lines_push, is_report_on}
 use Rattle.rr_lively.specs.Lively.{IsSoFar, IsScheduleTo}
 use Rattle.rr_lively.proofs.LivelyLaws.{is_schedule_to}
-use Rattle.rr_finish.specs.Finishes.{IsAdded, Adds, IsFinish}
+use Rattle.rr_lively.specs.Finishes.{IsAdded, Adds, IsFinish}
 
 -- ---- events that are added
 

@@ -1,7 +1,7 @@
 use Rattle.std.proofs.Common.{◌≡◌, [], length}
 use Rattle.rr_sim.specs.Clusters.{new_cluster}
 use Rattle.rr_sim.proofs.ToldLaws.{ToldSoFar}
-use Rattle.rr_finish.proofs.finish.read_run.Given as goal
+use Rattle.rr_lively.proofs.finish.read_run.Given as goal
 
 -- what the lines so far tell is told
 abbrev pub invariant-loop-report : goal.invariant-loop-report

@@ -1,6 +1,6 @@
 use Rattle.std.proofs.Common.{List, ℕ, subst}
-use Rattle.rr_finish.specs.Finishes.{Adds}
-use Rattle.rr_finish.proofs.finish.finish_on.Goals as goal
+use Rattle.rr_lively.specs.Finishes.{Adds}
+use Rattle.rr_lively.proofs.finish.finish_on.Goals as goal
 
 pub finish_of-requires-clause-adds : goal.finish_of-requires-clause-adds
 finish_of-requires-clause-adds g c = subst (λ (given : List ℕ). Adds c.args.nodes given c.go_on.new.going.schedule.items) c.in_ok-going.ensures.whole c.in_ok-ending.ensures.adds

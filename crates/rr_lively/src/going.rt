@@ -3,10 +3,10 @@
 ghost use Rattle.std.specs.Prelude.{◌≡◌, ◌≤◌, ◌+◌, ◌<◌, ◌++◌, IsTrue, OnOk, IfOk};
 ghost use Rattle.rr_text.specs.Scheduled.{IsEvent};
 ghost use Rattle.rr_lively.specs.Lively.{IsSoFar};
-ghost use Rattle.rr_finish.specs.Finishes.{IsAdded, Adds};
+ghost use Rattle.rr_lively.specs.Finishes.{IsAdded, Adds};
 
 use crate::plan::Plan;
-use rr_lively::may_stay;
+use crate::run::may_stay;
 use rr_sim::Cluster;
 use rr_text::text_schedule::push_event_line;
 use rr_text::{Event, Happening};

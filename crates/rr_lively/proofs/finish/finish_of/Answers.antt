@@ -1,8 +1,8 @@
 use Rattle.std.proofs.Common.{◌≤◌, ℕ, List, rules, subst}
 use Rattle.rr_types.specs.declared.message.Message.{Message}
 use Rattle.rr_model.specs.Sound.{IsDecidedList}
-use Rattle.rr_finish.proofs.FinishLaws.{is_finish}
-use Rattle.rr_finish.proofs.finish.finish_of.Goals as goal
+use Rattle.rr_lively.proofs.FinishLaws.{is_finish}
+use Rattle.rr_lively.proofs.finish.finish_of.Goals as goal
 
 pub returns-clause-ok : goal.returns-clause-ok
 returns-clause-ok c =
