@@ -1,5 +1,5 @@
 #!/usr/bin/env python3
-"""Makes crates/rr_page/src/parts.rt of the files beside it: the page up to the run's data, up to its picture, and behind that.
+"""Makes crates/rr_cli/src/parts.rt of the files beside it: the page up to the run's data, up to its picture, and behind that.
 
     web/embed.py [--check]
 
@@ -8,7 +8,7 @@ import pathlib
 import sys
 
 FOLDER = pathlib.Path(__file__).resolve().parent
-PARTS = FOLDER.parent / "crates/rr_page/src/parts.rt"
+PARTS = FOLDER.parent / "crates/rr_cli/src/parts.rt"
 
 
 def constant(name, about, text):
@@ -29,8 +29,8 @@ def main():
         constant("BACK", "The page behind the picture.", back)))
     if "--check" in sys.argv[1:]:
         if PARTS.read_text() != made:
-            sys.exit("crates/rr_page/src/parts.rt isn't what web/embed.py makes")
-        print("web/embed.py: rr_page has the page of web/")
+            sys.exit("crates/rr_cli/src/parts.rt isn't what web/embed.py makes")
+        print("web/embed.py: rr_cli has the page of web/")
     else:
         PARTS.write_text(made)
 

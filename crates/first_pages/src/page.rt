@@ -1,7 +1,7 @@
-//! What the first page of `rr_page` shows.
+//! What the first page of `rr_cli` shows.
 
+use rr_cli::page_of;
 use rr_draw::Cut;
-use rr_page::page_of;
 use rr_stream::Sink;
 use rr_types::Refusal;
 use std::alloc::Global;

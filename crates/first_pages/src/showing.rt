@@ -200,7 +200,7 @@ pub fn show_runs(rt: &HostRuntime) {
     );
     print_begin(
         rt,
-        "rr_page",
+        "rr_cli",
         page::page(alloc, OPENING, progress).ok(),
         "<!doctype html>",
     );

@@ -9,3 +9,4 @@ pub mod ReadLemmas
 pub mod MigrateLemmas
 mod WordLaws
 pub mod FolderLemmas
+mod PageLaws

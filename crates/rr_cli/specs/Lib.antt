@@ -14,3 +14,4 @@ pub mod Sweeping
 pub mod Migrations
 pub mod Views
 pub mod Clusters
+pub mod Pages

@@ -9,7 +9,7 @@ use Rattle.rr_account.specs.Texts.{IsExplained}
 use Rattle.rr_draw.specs.declared.cut.Cut.{Cut}
 use Rattle.rr_draw.specs.Pictures.{IsPictureOf}
 use Rattle.rr_draw.specs.TapePictures.{IsTapePicture}
-use Rattle.rr_page.specs.Pages.{IsPageOf, IsTapePage}
+use Rattle.rr_cli.specs.Pages.{IsPageOf, IsTapePage}
 use Rattle.rr_words.specs.declared.tasks.Form.TheVariants.{Plain, Json}
 use Rattle.rr_cli.specs.declared.views.Shown.{Shown}
 use Rattle.rr_cli.specs.declared.views.Shown.TheVariants as shown

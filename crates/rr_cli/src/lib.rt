@@ -40,6 +40,8 @@ mod folder_faults;
 mod folders;
 mod input;
 mod migrate;
+mod page;
+mod parts;
 mod picture;
 mod program;
 mod random_objects;
@@ -57,6 +59,7 @@ mod words;
 
 pub use folder_faults::{end_by_unlocked, print_folder_fault};
 pub use migrate::migrate_disk;
+pub use page::page_of;
 pub use program::{execute, run};
 pub use random_schedule::{nodes_of, number_in};
 pub use refusals::{TextKind, end_by_fault, end_by_refusal, print_refusal, status};

@@ -13,13 +13,13 @@ ghost use Rattle.rr_cli.specs.Ends.{EndsOnPicture, EndsOnDrawn, drawn_of_tape, E
 ghost use Rattle.rr_words.specs.Tasks.{cut_words_in};
 
 use crate::input::STANDARD_INPUT;
+use crate::page::page_of;
 use crate::random_schedule::number_in;
 use crate::recognising::{Recognised, recognise};
 use crate::refusals::{TextKind, end_by_fault, end_by_refusal};
 use crate::streams::{end_by_stream, end_by_text};
 use crate::taped::{TapeView, show_tape, show_tape_bytes};
 use rr_draw::{Cut, picture_of};
-use rr_page::page_of;
 use rr_stream::{FileReader, Sink, Source, read_all};
 use rr_types::{Instance, NodeId, Refusal};
 use rr_words::{CutWords, LAST_LINE};

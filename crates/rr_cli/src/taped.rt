@@ -9,6 +9,7 @@ ghost use Rattle.rr_cli.specs.Shown.{Shows, ShowsTape};
 ghost use Rattle.rr_cli.specs.Views.{EndsOnText};
 
 use crate::audit::end_by_no;
+use crate::page::tape_page;
 use crate::recognising::{Recognised, recognise};
 use crate::refusals::{TextKind, end_by_fault, end_by_refusal};
 use crate::streams::end_by_text;
@@ -16,7 +17,6 @@ use crate::views::{Shown, show_bytes, shown_text};
 use rr_account::account_of_tape;
 use rr_audit::{Verdict, watch_tape};
 use rr_draw::{Cut, tape_picture};
-use rr_page::tape_page;
 use rr_stream::Sink;
 use rr_text::Tape;
 use rr_types::Refusal;

@@ -1,6 +1,6 @@
 use Rattle.std.proofs.lemmas.Result.{IfOk-weaker}
-use Rattle.rr_page.proofs.PageLaws.{of_equal}
-use Rattle.rr_page.proofs.page.page_of.Goals as goal
+use Rattle.rr_cli.proofs.PageLaws.{of_equal}
+use Rattle.rr_cli.proofs.page.page_of.Goals as goal
 
 pub returns-clause-ok : goal.returns-clause-ok
 returns-clause-ok g c =

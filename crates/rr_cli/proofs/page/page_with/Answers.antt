@@ -1,5 +1,5 @@
-use Rattle.rr_page.proofs.PageLaws.{grew}
-use Rattle.rr_page.proofs.page.page_with.Goals as goal
+use Rattle.rr_cli.proofs.PageLaws.{grew}
+use Rattle.rr_cli.proofs.page.page_with.Goals as goal
 
 pub returns-clause-ok : goal.returns-clause-ok
 returns-clause-ok c =

@@ -2,7 +2,7 @@
 use Rattle.std.proofs.Common.{◌≡◌, ◌∙◌, ℕ, List, [], ◌++◌, ap, sym, subst}
 use Rattle.std.specs.List.{flat_map}
 use Rattle.rr_draw.specs.Pictures.{escaped}
-use Rattle.rr_page.specs.Pages.{HasBoth}
+use Rattle.rr_cli.specs.Pages.{HasBoth}
 
 -- a text that grew by a front, the data, a middle, the picture and a back
 pub grew : (objects picture front middle back none first second third fourth text : List ℕ) → none ≡ [] → first ≡ none ++ front

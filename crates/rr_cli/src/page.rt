@@ -4,7 +4,7 @@ ghost use Rattle.std.specs.Prelude.{◌≡◌, IfOk, IfErr};
 ghost use Rattle.rr_text.specs.Lines.{IsFault};
 ghost use Rattle.rr_text.specs.Scheduled.{IsEvent};
 ghost use Rattle.rr_text.specs.ScheduleTexts.{event_line};
-ghost use Rattle.rr_page.specs.Pages.{HasBoth, IsPageOf, IsTapePage};
+ghost use Rattle.rr_cli.specs.Pages.{HasBoth, IsPageOf, IsTapePage};
 
 use crate::parts::{BACK, FRONT, MIDDLE};
 use rr_account::{account_of_tape, account_on, json_explanation};
