@@ -1,6 +1,6 @@
-//! What the first page of `rr_locked` shows. The node is one that `recover_through` opened, under its lock.
+//! What the first page of `rr_turn` shows. The node is one that `recover_through` opened, under its lock.
 
-use rr_locked::Locked;
+use rr_turn::Locked;
 use rr_types::{Command, Input, Refusal};
 
 /// Submits a command, and takes the group of facts that has to be flushed for it. It says how many facts these are.

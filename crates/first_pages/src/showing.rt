@@ -12,13 +12,13 @@ use rr_core::recover;
 use rr_disk::MemDisk;
 use rr_folders::Reading;
 use rr_journal::Journal;
-use rr_locked::Locked;
 use rr_node::Node;
 use rr_parts::Heartbeat;
 use rr_registry::{Numbered, Registry};
 use rr_step::State;
 use rr_stream::{Counted, NamedText};
 use rr_text::Schedule;
+use rr_turn::Locked;
 use rr_types::{
     Body, Command, Fact, Group, Instance, Message, Name, NodeId, Nodes, Op, Refusal, RequestNo,
     made_of,
@@ -124,7 +124,7 @@ fn count_staged(alloc: Global, command: &Command) -> Option<usize> {
 pub fn show_nodes(rt: &HostRuntime, command: &Command) {
     let alloc = rt.alloc();
     print(rt, "rr_behaviour and rr_step", count_waiting(alloc));
-    print(rt, "rr_locked", count_staged(alloc, command));
+    print(rt, "rr_turn", count_staged(alloc, command));
     if let Some((nodes, node)) = only_node() {
         let suspects = parts::suspected(&mut Heartbeat::new(nodes), node);
         print(rt, "rr_parts", Some(suspects.contains(node)));

@@ -2,7 +2,7 @@
 
 use crate::error::ClusterError;
 use crate::seated::Caller;
-use rr_locked::Turnstile;
+use rr_turn::Turnstile;
 use rr_window::WindowName;
 use std::sync::Wait;
 

@@ -81,6 +81,6 @@ pub use error::ClusterError;
 pub use guest::{Guest, Place};
 pub use names::Names;
 pub use options::Options;
-pub use rr_locked::Turnstile;
+pub use rr_turn::Turnstile;
 pub use rr_window::{Change, Sight, WindowName};
 pub use seated::Caller;

@@ -22,10 +22,10 @@ use rr_folders::{
     Closed, Folders, Lockable, Locks, Survey, enter, read_only_disk, survey_folders, try_folder,
 };
 use rr_journal::inspect;
-use rr_locked::Open;
 use rr_stream::{FileReader, Sink, Source, read_all};
 use rr_text::{Answers, Script, Tape};
 use rr_threads::{Ran, Recorder, run_script_told};
+use rr_turn::Open;
 use rr_types::{Nodes, Refusal};
 use std::alloc::Global;
 use std::fs::OpenFile;

@@ -9,8 +9,8 @@ ghost use Rattle.rr_run.specs.News.{told_by};
 
 use crate::asking::bytes_of;
 use crate::news::{Ear, NewEar, News, Tells};
-use rr_locked::Turnstile;
 use rr_threads::Handle;
+use rr_turn::Turnstile;
 use rr_types::{Name, Refusal, made_of};
 use rr_window::{Watch, WindowName};
 use rtrb::{Producer, RingBuffer};

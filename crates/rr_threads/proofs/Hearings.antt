@@ -1,10 +1,10 @@
 -- What is kept is heard, and the mail stays as it was.
 use Rattle.std.proofs.Common.{◌≡◌, ◌∙◌, [], Option, Some, None, length, refl}
 use Rattle.rr_model.specs.NodeState.{NodeState, decided_prefix}
-use Rattle.rr_locked.specs.Recorded.{Sent}
-use Rattle.rr_locked.specs.Chases.{Chase, Kept, heard_of}
-use Rattle.rr_locked.specs.declared.chase.Hearing.{Hearing}
-use Rattle.rr_locked.specs.declared.chase.Hearing.TheVariants.{Alone, Nothing, After, Before}
+use Rattle.rr_turn.specs.Recorded.{Sent}
+use Rattle.rr_turn.specs.Chases.{Chase, Kept, heard_of}
+use Rattle.rr_turn.specs.declared.chase.Hearing.{Hearing}
+use Rattle.rr_turn.specs.declared.chase.Hearing.TheVariants.{Alone, Nothing, After, Before}
 use Rattle.rr_turn.specs.Asked.{Ran, still, more}
 use Rattle.rr_turn.specs.Turns.{hearing}
 use Rattle.rr_turn.specs.Looks.{MeetsAny, HearsKept}

@@ -9,7 +9,7 @@ use Rattle.rr_model.specs.NodeState.{NodeState}
 use Rattle.rr_model.specs.NodeStep.{node_step, refusal_of}
 use Rattle.rr_text.specs.Taped.{Taped}
 use Rattle.rr_text.specs.declared.tape_event.TapeEvent.{TapeEvent}
-use Rattle.rr_locked.specs.Recorded.{HasNoPlace}
+use Rattle.rr_turn.specs.Recorded.{HasNoPlace}
 
 no_memory : (e : Refusal) → e ≡ OutOfMemory → e ≡ RoundsOut → ⊥
 no_memory e m is = let both : OutOfMemory ≡ RoundsOut = sym m ∙ is in cc

@@ -1,7 +1,7 @@
 -- What a call of a node's thread does to its mail.
 use Rattle.std.specs.Prelude.{◌≡◌}
 use Rattle.rr_model.specs.NodeState.{NodeState}
-use Rattle.rr_locked.specs.Chases.{Chase}
+use Rattle.rr_turn.specs.Chases.{Chase}
 use Rattle.rr_turn.specs.Asked.{Call, puts, puts_late, takes}
 use Rattle.rr_turn.specs.Looks.{HearsKept}
 use Rattle.rr_threads.specs.declared.wires.Mail.{Mail}

@@ -1,8 +1,8 @@
 -- What a node puts into an inbox, and what of that is late; what it takes out of its own, and keeps.
 use Rattle.std.specs.Prelude.{◌≡◌, ◌⊎◌, ◌<◌, ℕ, List, length, slice_get, slice_index_or, slice_set, Option, None, Some}
 use Rattle.rr_window.specs.InOrder.{Puts, Takes, HasHeld}
-use Rattle.rr_locked.specs.Recorded.{Sent}
-use Rattle.rr_locked.specs.Chases.{kept_with, sent_of}
+use Rattle.rr_turn.specs.Recorded.{Sent}
+use Rattle.rr_turn.specs.Chases.{kept_with, sent_of}
 use Rattle.rr_threads.specs.declared.wires.Way.{Way}
 use Rattle.rr_threads.specs.declared.wires.Mail.{Mail}
 

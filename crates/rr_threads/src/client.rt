@@ -22,9 +22,8 @@ use crate::rest::{FIRST, LONG, Rest};
 use crate::reused::{Reused, reused_at};
 use crate::shared::Shared;
 use crate::summary::summary_of;
-use rr_locked::Turnstile;
 use rr_text::{Answer, ScriptLine};
-use rr_turn::{Awaited, ClientEnds, Rung, await_receipt};
+use rr_turn::{Awaited, ClientEnds, Rung, Turnstile, await_receipt};
 use rr_types::{
     Binding, Command, Name, NodeId, NodeSummary, Op, Promise, Refusal, Reply, RequestNo, Value,
     made_of,

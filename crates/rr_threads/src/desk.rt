@@ -11,8 +11,7 @@ ghost use Rattle.rr_types.specs.declared.refusal.Refusal.{Refusal};
 
 use crate::shared::{Shared, Start};
 use crate::switching::Switched;
-use rr_locked::Locked;
-use rr_turn::{FlusherBell, FlusherRung, PublisherBell};
+use rr_turn::{FlusherBell, FlusherRung, Locked, PublisherBell};
 use rr_types::{Command, NodeId, Op, Refusal, Reply, RequestNo, made_of};
 use rr_window::{Publisher, Receipt, WindowName};
 use std::mem;

@@ -10,7 +10,7 @@ use crate::node_run::{Part, Remains, run_part};
 use crate::shared::{Shared, Start};
 use crate::wires::Mail;
 use rr_disk::Disk;
-use rr_locked::{Turnstile, recover_through};
+use rr_turn::{Turnstile, recover_through};
 use rr_types::{NodeId, Nodes, Refusal};
 use std::alloc::Global;
 use std::sync::Wait;

@@ -17,7 +17,7 @@ use crate::wires::{Mail, NodeEnds};
 use rr_core::Core;
 use rr_disk::Disk;
 use rr_journal::{Journal, Synced};
-use rr_locked::{Chase, Follower, Locked, Turnstile, Unflushed};
+use rr_turn::{Chase, Follower, Locked, Turnstile, Unflushed};
 use rr_types::{Group, NodeId, Refusal};
 use rr_window::{Giver, NewList, Seat, Seats, Taker, WindowName, hand_over};
 use std::alloc::{AllocError, Global};

@@ -4,7 +4,7 @@
 
 ghost use Rattle.std.specs.Prelude.{◌≡◌, [], OnOk};
 ghost use Rattle.rr_model.specs.NodeState.{NodeState, decided_prefix};
-ghost use Rattle.rr_locked.specs.Listed.{listed};
+ghost use Rattle.rr_turn.specs.Listed.{listed};
 ghost use Rattle.rr_turn.specs.Asked.{Call};
 
 use crate::course::Aside;
@@ -12,8 +12,7 @@ use crate::desk::Desk;
 use crate::recorder::Scribe;
 use crate::shared::Shared;
 use rr_core::Core;
-use rr_locked::{Follower, Locked};
-use rr_turn::{Counters, publish_next, settle};
+use rr_turn::{Counters, Follower, Locked, publish_next, settle};
 use rr_types::{Refusal, Reply, RequestNo};
 use rr_window::{Publisher, WindowName};
 use std::alloc::Global;

@@ -12,8 +12,8 @@ ghost use Rattle.rr_types.specs.Inputs.{HearsNothing};
 ghost use Rattle.rr_threads.specs.Lacking.{may_lack};
 
 use rr_journal::Synced;
-use rr_locked::{Locked, Recording, Sent, ack_on, hear_on, input_on, mark_on, take_on};
 use rr_text::Tape;
+use rr_turn::{Locked, Recording, Sent, ack_on, hear_on, input_on, mark_on, take_on};
 use rr_types::{Group, Input, Message, Nodes, Refusal, Reply, RequestNo};
 use std::alloc::Global;
 use std::sync::{Mutex, Wait};

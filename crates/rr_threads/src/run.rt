@@ -16,7 +16,7 @@ use crate::shared::{Shared, Start};
 use crate::switches::Switches;
 use crate::wires::{Mail, Way};
 use rr_disk::Disk;
-use rr_locked::{Kept, Sent, Turnstile};
+use rr_turn::{Kept, Sent, Turnstile};
 use rr_types::{NodeId, Nodes, Refusal};
 use rr_window::Outlet;
 use std::alloc::Global;

@@ -1,12 +1,11 @@
 //! How a run ends, and how its nodes are rung.
 //!
-//! What is counted has its clauses at `Ending` of rr_locked. That it lies under the lock, and that all are rung once the run is over, is read:
+//! What is counted has its clauses at `Ending` of rr_turn. That it lies under the lock, and that all are rung once the run is over, is read:
 //! a line or two each.
 
 ghost use Rattle.std.specs.Prelude.{◌≡◌};
 
-use rr_locked::{Ending, Failure};
-use rr_turn::{Bell, Bells, Rung};
+use rr_turn::{Bell, Bells, Ending, Failure, Rung};
 use rr_types::{NodeId, Refusal};
 use std::alloc::Global;
 use std::sync::atomic::{AtomicBool, Ordering};

@@ -10,7 +10,7 @@ use rr_core::Core;
 use rr_disk::Disk;
 use rr_frame::Snapshot;
 use rr_journal::{Journal, SwitchJob};
-use rr_locked::Turnstile;
+use rr_turn::Turnstile;
 use rr_types::{NodeId, Nodes, Promise, Refusal};
 use rr_window::WindowName;
 use std::alloc::Global;

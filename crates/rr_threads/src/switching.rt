@@ -7,7 +7,7 @@ ghost use Rattle.rr_threads.specs.Snapshotting.{IsMade};
 use crate::desk::Due;
 use rr_disk::Disk;
 use rr_journal::{Journal, SwitchJob, Switching};
-use rr_locked::{Place, Turnstile};
+use rr_turn::{Place, Turnstile};
 use rr_types::{NodeId, Refusal};
 
 /// The most device calls of a switch.

@@ -12,8 +12,10 @@ use crate::recorder::{Recorder, Scribe};
 use crate::rest::Rest;
 use crate::running::Running;
 use rr_journal::Synced;
-use rr_locked::{Kept, Locked, Place, Sent, Turnstile, Unflushed, send, send_on};
-use rr_turn::{Bell, FlusherRung, Links, PublisherRung, Rung};
+use rr_turn::{
+    Bell, FlusherRung, Kept, Links, Locked, Place, PublisherRung, Rung, Sent, Turnstile, Unflushed,
+    send, send_on,
+};
 use rr_types::{Command, Group, Input, Message, NodeId, Refusal};
 use rr_window::{Giver, Outlet, Port, ROOM, Taker, TrySendError, WindowName};
 use std::mem;

@@ -3,9 +3,9 @@ use Rattle.std.proofs.Common.{◌≡◌, ◌∙◌, ◌≤◌, ◌++◌, ◌∷�
 use Rattle.std.specs.Prelude.{◌==◌, OnOk}
 use Rattle.rr_types.specs.declared.refusal.Refusal.{Refusal}
 use Rattle.rr_model.specs.NodeState.{NodeState, decided_prefix}
-use Rattle.rr_locked.specs.Recorded.{Sent}
-use Rattle.rr_locked.specs.Chases.{Chase, heard_of}
-use Rattle.rr_locked.specs.declared.chase.Hearing.{Hearing}
+use Rattle.rr_turn.specs.Recorded.{Sent}
+use Rattle.rr_turn.specs.Chases.{Chase, heard_of}
+use Rattle.rr_turn.specs.declared.chase.Hearing.{Hearing}
 use Rattle.rr_turn.specs.Asked.{Call, takes, Ran, still, more}
 use Rattle.rr_turn.specs.Turns.{takes_each, met, met_chase, hearing, meeting, all_met, all_met_chase}
 use Rattle.rr_turn.specs.Looks.{Hears, MeetsAny}

@@ -7,3 +7,7 @@ pub mod Asks
 pub mod Publishes
 pub mod Rows
 pub mod Waits
+pub mod Counting
+pub mod Flushes
+pub mod OpeningLaws
+pub mod Takes

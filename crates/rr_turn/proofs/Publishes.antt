@@ -11,7 +11,7 @@ use Rattle.rr_types.specs.Registry.{reply_of}
 use Rattle.rr_model.specs.NodeState.{NodeState, decided_prefix}
 use Rattle.rr_model.specs.NodeStep.{next_acknowledged, acknowledged}
 use Rattle.rr_window.specs.Windows.{Publishing}
-use Rattle.rr_locked.specs.Listed.{listed}
+use Rattle.rr_turn.specs.Listed.{listed}
 use Rattle.rr_turn.specs.Asked.{Call, acknowledges, tells_clients}
 use Rattle.rr_turn.specs.Tells.{Follows, TellsOne, Tells}
 

@@ -7,8 +7,8 @@ use Rattle.rr_types.specs.Nodes.{has_member}
 use Rattle.rr_types.specs.declared.message.Message.{Message}
 use Rattle.rr_model.specs.NodeState.{NodeState}
 use Rattle.rr_model.specs.NodeStep.{next_leaving, message_left}
-use Rattle.rr_locked.specs.Recorded.{Sent}
-use Rattle.rr_locked.specs.Chases.{Chase}
+use Rattle.rr_turn.specs.Recorded.{Sent}
+use Rattle.rr_turn.specs.Chases.{Chase}
 use Rattle.rr_turn.specs.Asked.{Call, leaves, rings, Ran, still, more}
 use Rattle.rr_turn.specs.Turns.{leaving, left, left_after, puts_each, put_of, woken_by, woken_with, noted, noted_one, rings_from}
 use Rattle.rr_turn.specs.Looks.{Puts}

@@ -7,9 +7,9 @@ use Rattle.rr_types.specs.declared.refusal.Refusal.{Refusal}
 use Rattle.rr_types.specs.declared.refusal.Refusal.TheVariants.{RoundsOut, TooLarge}
 use Rattle.rr_model.specs.NodeState.{NodeState, next_number, decided_prefix}
 use Rattle.rr_model.specs.NodeStep.{node_step, advance_refusal, refusal_of}
-use Rattle.rr_locked.specs.Recorded.{Sent}
-use Rattle.rr_locked.specs.Chases.{Chase, again, chase_ticked}
-use Rattle.rr_locked.specs.Ticks.{Standstill, is_advance_due, standstill_after}
+use Rattle.rr_turn.specs.Recorded.{Sent}
+use Rattle.rr_turn.specs.Chases.{Chase, again, chase_ticked}
+use Rattle.rr_turn.specs.Ticks.{Standstill, is_advance_due, standstill_after}
 use Rattle.rr_turn.specs.Asked.{Call, Ran, still, more, tells, hears}
 use Rattle.rr_turn.specs.Turns.{taking, all_met, all_met_chase, heard_again, hearing_again, is_catching_up, advancing, beating, ticking, ticked_chase, ticked_standstill}
 use Rattle.rr_turn.specs.Looks.{Hears, TicksFrom, Ticked, TicksIf}

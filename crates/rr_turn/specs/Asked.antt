@@ -9,8 +9,8 @@ use Rattle.rr_types.specs.declared.message.Message.{Message}
 use Rattle.rr_types.specs.declared.refusal.Refusal.{Refusal}
 use Rattle.rr_model.specs.NodeState.{NodeState}
 use Rattle.rr_journal.specs.Flushes.{Kept}
-use Rattle.rr_locked.specs.Recorded.{Sent}
-use Rattle.rr_locked.specs.declared.flusher.Unflushed.{Unflushed}
+use Rattle.rr_turn.specs.Recorded.{Sent}
+use Rattle.rr_turn.specs.declared.flusher.Unflushed.{Unflushed}
 
 -- a call, with what it was given or answered. One on the node says which state that had before
 pub data Call : Type 0 where

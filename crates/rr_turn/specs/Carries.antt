@@ -13,8 +13,8 @@ use Rattle.rr_journal.specs.Flushes.{Kept}
 use Rattle.rr_journal.specs.Journals.{IsOver}
 use Rattle.rr_journal.specs.Moments.{EachHolds, EachHoldsEither}
 use Rattle.rr_journal.specs.declared.journal.Journal.{Journal}
-use Rattle.rr_locked.specs.Flushed.{IfRefused, IfFailed, HasFailed, HasMore, IsBehind}
-use Rattle.rr_locked.specs.declared.flusher.Unflushed.{Unflushed}
+use Rattle.rr_turn.specs.Flushed.{IfRefused, IfFailed, HasFailed, HasMore, IsBehind}
+use Rattle.rr_turn.specs.declared.flusher.Unflushed.{Unflushed}
 use Rattle.rr_turn.specs.Asked.{Call, Ran, receives, hands_back, wakes_loop}
 
 -- why no flush of a group began: memory, or its length; or a flush had failed, or was under way

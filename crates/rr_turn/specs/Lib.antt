@@ -7,3 +7,9 @@ pub mod Carries
 pub mod Tells
 pub mod Downs
 pub mod Waits
+pub mod Chases
+pub mod Endings
+pub mod Listed
+pub mod Flushed
+pub mod Recorded
+pub mod Ticks

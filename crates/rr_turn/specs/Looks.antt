@@ -7,9 +7,9 @@ use Rattle.rr_types.specs.Groups.{Grouped}
 use Rattle.rr_journal.specs.Flushes as flushed
 use Rattle.rr_model.specs.NodeState.{NodeState, decided_prefix}
 use Rattle.rr_model.specs.NodeStep.{running_group, group_taken, marked_running}
-use Rattle.rr_locked.specs.Recorded.{Sent}
-use Rattle.rr_locked.specs.Chases.{Chase, Kept, sent_of}
-use Rattle.rr_locked.specs.Ticks.{Ticks, Standstill, is_tick_due, ticks_after, until_tick}
+use Rattle.rr_turn.specs.Recorded.{Sent}
+use Rattle.rr_turn.specs.Chases.{Chase, Kept, sent_of}
+use Rattle.rr_turn.specs.Ticks.{Ticks, Standstill, is_tick_due, ticks_after, until_tick}
 use Rattle.rr_turn.specs.Asked.{Call, Ran, marks, groups, puts_late, sees, comes, notices, passes, wakes_publisher, reads_clock, rests, goes_on}
 use Rattle.rr_turn.specs.Wants.{AsksAll}
 use Rattle.rr_turn.specs.Turns.{leaving, left, noted, woken_with, rings_from, putting, taking, all_met, all_met_chase, met, met_chase, meeting, given, giving, ticking, ticked_chase, ticked_standstill}

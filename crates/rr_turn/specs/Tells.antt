@@ -8,7 +8,7 @@ use Rattle.rr_types.specs.Registry.{reply_of}
 use Rattle.rr_model.specs.NodeState.{NodeState, decided_prefix}
 use Rattle.rr_model.specs.NodeStep.{next_acknowledged}
 use Rattle.rr_window.specs.Windows.{Publishing}
-use Rattle.rr_locked.specs.Listed.{listed}
+use Rattle.rr_turn.specs.Listed.{listed}
 use Rattle.rr_turn.specs.Asked.{Call, acknowledges, tells_clients}
 
 -- the requests that wait to be told, with one more if one is acknowledged

@@ -11,11 +11,11 @@ use Rattle.rr_types.specs.declared.refusal.Refusal.TheVariants.{RoundsOut}
 use Rattle.rr_types.specs.Groups.{Grouped}
 use Rattle.rr_model.specs.NodeState.{NodeState, decided_prefix}
 use Rattle.rr_model.specs.NodeStep.{node_step, advance_refusal, next_leaving, message_left}
-use Rattle.rr_locked.specs.Recorded.{Sent}
-use Rattle.rr_locked.specs.Chases.{Chase, heard_of, chase_of, chase_sent, again, chase_again, chase_ticked, is_gaining}
-use Rattle.rr_locked.specs.Ticks.{Standstill, is_advance_due, standstill_after}
-use Rattle.rr_locked.specs.declared.chase.Hearing.{Hearing}
-use Rattle.rr_locked.specs.declared.chase.Hearing.TheVariants.{Alone, Nothing, After, Before}
+use Rattle.rr_turn.specs.Recorded.{Sent}
+use Rattle.rr_turn.specs.Chases.{Chase, heard_of, chase_of, chase_sent, again, chase_again, chase_ticked, is_gaining}
+use Rattle.rr_turn.specs.Ticks.{Standstill, is_advance_due, standstill_after}
+use Rattle.rr_turn.specs.declared.chase.Hearing.{Hearing}
+use Rattle.rr_turn.specs.declared.chase.Hearing.TheVariants.{Alone, Nothing, After, Before}
 use Rattle.rr_turn.specs.Asked.{Call, tells, hears, leaves, puts, rings, takes, hands, wakes_flusher}
 
 -- the messages that may leave, oldest first, at most so many

@@ -6,9 +6,10 @@ ghost use Rattle.rr_turn.specs.Asked.{Call, receives, hands_back, wakes_loop};
 ghost use Rattle.rr_turn.specs.Carries.{Carries};
 
 use crate::bells::Rung;
+use crate::flusher::{Unflushed, carry};
+use crate::turnstile::Turnstile;
 use rr_disk::Disk;
 use rr_journal::{Journal, Synced};
-use rr_locked::{Turnstile, Unflushed, carry};
 use rr_types::{Group, NodeId};
 use std::alloc::Global;
 

@@ -5,9 +5,10 @@ ghost use Rattle.rr_model.specs.NodeState.{NodeState};
 ghost use Rattle.rr_journal.specs.Flushes.{Kept};
 ghost use Rattle.rr_turn.specs.Looks.{MarksGroup, Groups, Marks, Flushes};
 
+use crate::flusher::Unflushed;
 use crate::links::Links;
+use crate::locked::Locked;
 use rr_journal::Synced;
-use rr_locked::{Locked, Unflushed};
 use rr_types::{Group, Refusal};
 use std::sync::{Mutex, Wait};
 

@@ -6,8 +6,11 @@ ghost use Rattle.rr_turn.specs.Asked.{Ran};
 ghost use Rattle.rr_turn.specs.Looks.{Hears, Looks, MeetsAny, HearsKept};
 ghost use Rattle.rr_turn.specs.Turns.{met, met_chase, meeting};
 
+use crate::chase::{Chase, Hearing};
+use crate::kept::Kept;
 use crate::links::Links;
-use rr_locked::{Chase, Hearing, Kept, Locked, Sent};
+use crate::locked::Locked;
+use crate::sent::Sent;
 use rr_types::Refusal;
 use std::sync::{Mutex, Wait};
 

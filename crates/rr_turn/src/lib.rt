@@ -28,28 +28,56 @@
 //! ```
 #![tactic(auto)]
 
+mod among;
 mod bells;
+mod chase;
 mod down;
+mod ending;
+mod flusher;
 mod flushing;
+mod following;
 mod handing;
 mod hearing;
+mod kept;
 mod links;
+mod locked;
 mod looking;
+mod opening;
+mod placed;
 mod publishing;
+mod recorded;
+mod recording;
 mod sending;
+mod sent;
 mod settling;
+mod standstill;
 mod submitting;
 mod ticking;
+mod ticks;
 mod turning;
+mod turnstile;
 mod waiting;
 
 pub use bells::{Bell, Bells, FlusherBell, FlusherRung, PublisherBell, PublisherRung, Rung};
+pub use chase::{Chase, Hearing};
 pub use down::{DownEnds, Next, stay_down};
+pub use ending::{Ending, Failure};
+pub use flusher::Unflushed;
 pub use flushing::{FlusherEnds, flush_group};
+pub use following::Follower;
 pub use hearing::hear_kept;
+pub use kept::Kept;
 pub use links::Links;
+pub use locked::Locked;
+pub use opening::recover_through;
 pub use publishing::{Counters, publish_next};
+pub use recorded::{ack_on, hear_on, input_on, mark_on, send_on, take_on};
+pub use recording::Recording;
+pub use sent::{Sent, send};
 pub use settling::{Course, settle};
+pub use standstill::Standstill;
 pub use ticking::Clockwork;
+pub use ticks::Ticks;
 pub use turning::turn;
+pub use turnstile::{Open, Place, Turnstile};
 pub use waiting::{Awaited, ClientEnds, await_receipt};

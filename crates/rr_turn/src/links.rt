@@ -9,8 +9,10 @@ ghost use Rattle.std.specs.Duration.{as_nanos};
 ghost use Rattle.rr_turn.specs.Asked.{Call, reads_clock, rests, goes_on, tells, hears, marks, groups, leaves, puts, puts_late, rings, sees, takes, comes, hands, wakes_flusher, wakes_publisher, notices, counts, wants, refuses, passes};
 
 use crate::bells::{FlusherRung, PublisherRung, Rung};
+use crate::flusher::Unflushed;
+use crate::locked::Locked;
+use crate::sent::Sent;
 use rr_journal::Synced;
-use rr_locked::{Locked, Sent, Unflushed};
 use rr_types::{Command, Group, Input, Message, NodeId, Refusal};
 use std::time::Duration;
 

@@ -3,12 +3,13 @@
 ghost use Rattle.std.specs.Prelude.{IfOk};
 ghost use Rattle.rr_turn.specs.Looks.{Looked};
 
+use crate::chase::Chase;
 use crate::handing::{flush_next, mark_next};
 use crate::hearing::hear_next;
 use crate::links::Links;
+use crate::locked::Locked;
 use crate::sending::send_all;
 use crate::submitting::submit_next;
-use rr_locked::{Chase, Locked};
 use rr_types::Refusal;
 use std::sync::{Mutex, Wait};
 

@@ -5,10 +5,11 @@ ghost use Rattle.rr_types.specs.Registry.{reply_of};
 ghost use Rattle.rr_model.specs.NodeState.{NodeState, decided_prefix};
 ghost use Rattle.rr_model.specs.NodeStep.{next_acknowledged, acknowledged};
 ghost use Rattle.rr_turn.specs.Asked.{Call, acknowledges, tells_clients};
-ghost use Rattle.rr_locked.specs.Listed.{listed};
+ghost use Rattle.rr_turn.specs.Listed.{listed};
 ghost use Rattle.rr_turn.specs.Tells.{with_acknowledged, Follows, Tells, Publishes};
 
-use rr_locked::{Follower, Locked};
+use crate::following::Follower;
+use crate::locked::Locked;
 use rr_types::{Refusal, Reply, RequestNo};
 use rr_window::{Publisher, WindowName};
 use std::collections::VecDeque;

@@ -6,8 +6,10 @@ ghost use Rattle.rr_turn.specs.Asked.{Ran};
 ghost use Rattle.rr_turn.specs.Looks.{Puts, Sends};
 ghost use Rattle.rr_turn.specs.Turns.{wakes, noted_one, put_of, woken_by, rings_from};
 
+use crate::chase::Chase;
 use crate::links::Links;
-use rr_locked::{Chase, Locked, Sent};
+use crate::locked::Locked;
+use crate::sent::Sent;
 use rr_types::{Body, Command, Estimate, Message, NodeId, NodeSet, Op, Refusal, made_of};
 use std::sync::{Mutex, Wait};
 

@@ -7,10 +7,11 @@ ghost use Rattle.rr_turn.specs.Asked.{Ran};
 ghost use Rattle.rr_turn.specs.Looks.{Submits, SubmitsInOrder};
 ghost use Rattle.rr_turn.specs.Wants.{asking, AsksAt, AsksAll};
 
+use crate::chase::Chase;
 use crate::hearing::hear_next;
 use crate::links::Links;
+use crate::locked::Locked;
 use crate::sending::{Receivers, put_in, ring_each};
-use rr_locked::{Chase, Locked};
 use rr_types::{Command, Input, Op, Refusal, made_of};
 use std::sync::{Mutex, Wait};
 

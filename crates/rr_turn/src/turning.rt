@@ -3,10 +3,12 @@
 ghost use Rattle.std.specs.Prelude.{OnOk};
 ghost use Rattle.rr_turn.specs.Looks.{RestsIf, Turned};
 
+use crate::chase::Chase;
 use crate::links::Links;
+use crate::locked::Locked;
 use crate::looking::look;
 use crate::ticking::{Clockwork, tick_next};
-use rr_locked::{Chase, Locked, Ticks};
+use crate::ticks::Ticks;
 use rr_types::Refusal;
 use std::sync::{Mutex, Wait};
 

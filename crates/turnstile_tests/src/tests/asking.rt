@@ -1,9 +1,9 @@
 //! Clients that ask one thing, and runs of them over empty disks.
 
 use rr_disk::MemDisk;
-use rr_locked::Turnstile;
 use rr_text::{Answer, ScriptLine};
 use rr_threads::{Client, Handle, run_clients};
+use rr_turn::Turnstile;
 use rr_types::{Command, Name, NodeId, Nodes, Op, Refusal, Reply, RequestNo, Value};
 use rr_window::WindowName;
 use std::alloc::Global;

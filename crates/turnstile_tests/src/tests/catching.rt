@@ -1,9 +1,9 @@
 //! A run in which a node is stopped while many commands are decided.
 
 use super::asking::{TURNS, disks_for, node_of, numbered, rest};
-use rr_locked::{Place, Turnstile};
 use rr_text::Answer;
 use rr_threads::{Client, Handle, Switches, run_switched};
+use rr_turn::{Place, Turnstile};
 use rr_types::{Command, Name, NodeId, Nodes, Op, Refusal, RequestNo, Value};
 use rr_window::WindowName;
 use std::alloc::Global;

@@ -2,9 +2,9 @@
 
 use super::asking::{OPENING_CALLS, Shared, askers, claims, numbered};
 use rr_disk::{AreaFile, FileDisk};
-use rr_locked::{Open, Place, Turnstile};
 use rr_text::{Answers, Script};
 use rr_threads::{run_clients, run_script};
+use rr_turn::{Open, Place, Turnstile};
 use rr_types::{NodeId, Nodes, Refusal};
 use std::alloc::Global;
 use std::io;

@@ -1,9 +1,9 @@
 //! The program on the first page of rr_threads.
 
 use rr_disk::MemDisk;
-use rr_locked::{Open, Turnstile};
 use rr_text::Answer;
 use rr_threads::{Client, Handle, run_clients};
+use rr_turn::{Open, Turnstile};
 use rr_types::{Command, Name, Nodes, Op, Refusal, RequestNo, Value};
 use rr_window::WindowName;
 use std::sync::Wait;

@@ -3,8 +3,8 @@
 use super::asking::{
     Asker, OPENING_CALLS, Shared, TURNS, askers, claim, claims, node_of, numbered, runs,
 };
-use rr_locked::{Open, Place, Turnstile};
 use rr_text::ScriptLine;
+use rr_turn::{Open, Place, Turnstile};
 use rr_types::{Name, NodeId, Refusal};
 use std::process::Abort;
 use std::sync::Wait;

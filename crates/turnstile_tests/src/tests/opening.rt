@@ -2,9 +2,9 @@
 
 use super::asking::{Asker, OPENING_CALLS, TURNS, claim, disks_for, node_of, numbered, rest};
 use rr_disk::{AreaFile, FileDisk};
-use rr_locked::{Place, Turnstile};
 use rr_text::{Answer, ScriptLine};
 use rr_threads::{Client, Handle, Switches, run_clients, run_switched};
+use rr_turn::{Place, Turnstile};
 use rr_types::{NodeId, Refusal};
 use rr_window::WindowName;
 use std::alloc::Global;

@@ -1,9 +1,9 @@
 //! A run in which a snapshot of a node is held up before its first device call.
 
 use super::asking::{TURNS, claim, disks_for, node_of, numbered, rest};
-use rr_locked::{Place, Turnstile};
 use rr_text::{Answer, ScriptLine};
 use rr_threads::{Client, Handle, Switches, run_switched};
+use rr_turn::{Place, Turnstile};
 use rr_types::{Name, NodeId, Refusal};
 use rr_window::WindowName;
 use std::process::Abort;

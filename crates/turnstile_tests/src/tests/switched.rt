@@ -1,9 +1,9 @@
 //! A run of which a node is stopped and started again.
 
 use super::asking::{TURNS, claim, disks_for, node_of, numbered, rest};
-use rr_locked::{Open, Turnstile};
 use rr_text::{Answer, ScriptLine};
 use rr_threads::{Client, Handle, Switches, run_switched};
+use rr_turn::{Open, Turnstile};
 use rr_types::{Name, NodeId, Refusal};
 use rr_window::WindowName;
 use std::process::Abort;

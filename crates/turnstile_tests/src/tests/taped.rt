@@ -4,9 +4,9 @@ ghost use Rattle.std.specs.Prelude.{◌<◌};
 
 use super::asking::{disks_for, numbered};
 use rr_audit::{Verdict, examine};
-use rr_locked::Open;
 use rr_text::Script;
 use rr_threads::{Recorder, run_script};
+use rr_turn::Open;
 use std::alloc::{AllocError, Global};
 use std::process::Abort;
 use std::sync::Wait;

@@ -1,6 +1,6 @@
 use Rattle.std.proofs.Common.{◌∙◌, [], ap, sym, length}
 use Rattle.std.proofs.lemmas.Result.{on_ok_weaker}
-use Rattle.rr_locked.specs.declared.chase.Hearing.TheVariants.{Alone}
+use Rattle.rr_turn.specs.declared.chase.Hearing.TheVariants.{Alone}
 use Rattle.rr_model.specs.NodeState.{NodeState, decided_prefix}
 use Rattle.rr_turn.specs.Asked.{hears, still, more}
 use Rattle.rr_turn.proofs.Hears.{meets_by}

@@ -2,7 +2,7 @@ use Rattle.std.proofs.Common.{◌∙◌, [], ◌∷◌, ap, subst, length}
 use Rattle.rr_types.specs.declared.input.Input.TheVariants.{Hear}
 use Rattle.rr_model.specs.NodeStep.{node_step}
 use Rattle.std.proofs.lemmas.Result.{on_ok_weaker}
-use Rattle.rr_locked.specs.declared.chase.Hearing.TheVariants.{Alone, Nothing, After, Before}
+use Rattle.rr_turn.specs.declared.chase.Hearing.TheVariants.{Alone, Nothing, After, Before}
 use Rattle.rr_model.specs.NodeState.{NodeState, decided_prefix}
 use Rattle.rr_turn.specs.Asked.{hears, still, more}
 use Rattle.rr_turn.proofs.Hears.{meets_by}

@@ -1,7 +1,7 @@
 use Rattle.std.proofs.Common.{◌≡◌, subst}
 use mathlib.Core.List.{IsPrefix}
 use Rattle.rr_model.specs.NodeState.{NodeState, decided_prefix}
-use Rattle.rr_locked.specs.Listed.{listed}
+use Rattle.rr_turn.specs.Listed.{listed}
 use Rattle.rr_turn.proofs.Publishes.{follows_by}
 use Rattle.rr_turn.proofs.publishing.follow.Goals as goal
 

@@ -2,7 +2,7 @@ use Rattle.std.proofs.Common.{◌≡◌, ◌∙◌, [], List, length, nat_lt, co
 use Rattle.std.specs.Prelude.{◌||◌}
 use Rattle.rr_types.specs.declared.command.RequestNo.{RequestNo}
 use Rattle.rr_window.specs.Windows.{Publishing}
-use Rattle.rr_locked.specs.Listed.{listed}
+use Rattle.rr_turn.specs.Listed.{listed}
 use Rattle.rr_turn.specs.Tells.{Tells}
 use Rattle.rr_turn.proofs.publishing.publish_next.Goals as goal
 

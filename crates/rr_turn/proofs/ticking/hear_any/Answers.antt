@@ -1,7 +1,7 @@
 use Rattle.std.proofs.Common.{[], ◌∷◌, sym, subst}
 use Rattle.std.specs.Option.{option_map_or}
 use Rattle.std.proofs.lemmas.Result.{on_ok_weaker}
-use Rattle.rr_locked.specs.Recorded.{Sent}
+use Rattle.rr_turn.specs.Recorded.{Sent}
 use Rattle.rr_turn.specs.Asked.{Ran, hears, still, more}
 use Rattle.rr_turn.proofs.ticking.hear_any.Goals as goal
 

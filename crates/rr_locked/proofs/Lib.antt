@@ -1,4 +1,0 @@
-pub mod Counting
-pub mod Flushes
-pub mod OpeningLaws
-pub mod Takes
