@@ -54,7 +54,7 @@ pub fn show_values(rt: &HostRuntime, command: &Command) {
         "rr_registry",
         places::put(&mut Numbered::new(alloc)).ok(),
     );
-    print(rt, "rr_list", list::waits(alloc, REQUEST).ok());
+    print(rt, "rr_parts", list::waits(alloc, REQUEST).ok());
 }
 
 /// How many facts a new journal has once it has one: that an instance has decided on this command.

@@ -8,7 +8,7 @@ use Rattle.rr_model.specs.NodeState.{Owed}
 use Rattle.rr_model.specs.NodeStep.{may_leave, without_first_leaving, without_first_held}
 use Rattle.rr_types.specs.Registry.{is_same_request}
 use Rattle.std.proofs.lemmas.Bool.{eq-eqb, false≢true}
-use Rattle.rr_list.specs.Arrived.{without_first}
+use Rattle.rr_parts.specs.Arrived.{without_first}
 use Rattle.rr_parts.specs.Owing as mark
 use Rattle.rr_parts.proofs.SameLemmas.{request_is}
 

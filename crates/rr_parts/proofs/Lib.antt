@@ -8,3 +8,12 @@ pub mod VoteLemmas
 pub mod OutboxLemmas
 pub mod SameLemmas
 pub mod TailLemmas
+pub mod ArrivalLemmas
+pub mod PoolLemmas
+pub mod TableLemmas
+pub mod NotedLemmas
+pub mod MarkLemmas
+pub mod PrefixLemmas
+pub mod RestoreLemmas
+pub mod OpenLemmas
+pub mod ListedLemmas

@@ -8,3 +8,8 @@ pub mod Owing
 pub mod Passed
 pub mod Same
 pub mod Staging
+pub mod Listed
+pub mod Arrived
+pub mod Rowed
+pub mod Marked
+pub mod Opened

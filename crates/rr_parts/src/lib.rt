@@ -30,38 +30,50 @@
 //! ```
 #![tactic(auto)]
 
+mod arrivals;
+mod backing;
+mod heartbeat;
+mod instances;
+mod marks;
+mod open_instances;
+mod opening;
+mod outbox;
+mod owed;
+mod pool;
+mod row;
+mod rows;
+mod same;
+mod suspects;
+mod tally;
+mod unmarked;
+mod waiting;
+mod watch;
+
 ghost use Rattle.std.specs.Prelude.{ℕ, List};
 ghost use Rattle.rr_parts.specs.Rule.{Event, FollowsTheRule};
 ghost use Rattle.rr_parts.specs.Receipts.{Receipt, IsWhatWasTold, IsCompleteOver, InventsNothing};
 ghost use Rattle.rr_model.specs.NodeState.{Vote};
 ghost use Rattle.rr_parts.specs.Votes.{KeepsFirsts};
 
-mod backing;
-mod heartbeat;
-mod outbox;
-mod owed;
-mod row;
-mod same;
-mod suspects;
-mod tally;
-mod unmarked;
-mod watch;
-
+pub use arrivals::Values;
 pub use backing::Backing;
 pub use heartbeat::Heartbeat;
+pub use instances::Instances;
+pub use open_instances::OpenInstances;
 pub use outbox::Outbox;
 pub use owed::Owed;
+pub use pool::Pool;
 pub use row::Row;
+pub use rows::is_any_decided;
 pub use same::are_same_facts;
 pub use suspects::Suspects;
 pub use tally::{Tally, Vote};
 pub use unmarked::Unmarked;
-
+pub use waiting::Waiting;
 /// What a detector of n nodes suspects after a list of ticks and beats is what the rule of time-outs says.
 pub fn suspects_by_the_rule()
     ensures { (n q : ℕ) (events : List Event) → FollowsTheRule n q events }
 {}
-
 /// Laws of the reduction over any list of receipts: which nodes the output has at its end; who is named and
 /// stays silent is in it; who isn't named and wasn't in it before stays out.
 pub fn laws_of_receipts()
@@ -69,7 +81,6 @@ pub fn laws_of_receipts()
     ensures it_is_complete { (set node : ℕ) (receipts : List Receipt) → IsCompleteOver set node receipts }
     ensures it_invents_nothing { (set node : ℕ) (receipts : List Receipt) → InventsNothing set node receipts }
 {}
-
 /// Of each sender the first estimate is kept, and nothing else, whatever comes in which order.
 pub fn keeps_the_first_of_each_sender()
     ensures { (votes : List Vote) → KeepsFirsts votes }

@@ -1,7 +1,6 @@
 //! What a node that is up knows, as plain data.
 
-use rr_list::{Instances, Pool, Waiting};
-use rr_parts::{Heartbeat, Outbox, Suspects, Unmarked};
+use rr_parts::{Heartbeat, Instances, Outbox, Pool, Suspects, Unmarked, Waiting};
 use rr_types::{NodeId, Nodes};
 use std::marker::Model;
 

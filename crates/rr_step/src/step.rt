@@ -19,8 +19,7 @@ use crate::known::is_among;
 use crate::owing::Reach;
 use crate::state::State;
 use crate::{estimates, over, owing};
-use rr_list::OpenInstances;
-use rr_parts::{Backing, Heartbeat, Owed, Row, Suspects};
+use rr_parts::{Backing, Heartbeat, OpenInstances, Owed, Row, Suspects};
 use rr_types::{
     Body, Command, Fact, Instance, NodeId, NodeSet, Nodes, OPEN_INSTANCES, Op, Refusal, RequestNo,
     Standing, made_of,

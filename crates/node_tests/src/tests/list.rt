@@ -1,7 +1,6 @@
 //! The tables in use, with ample memory. What is expected follows from the definitions.
 
-use rr_list::{Instances, Pool, Waiting};
-use rr_parts::Row;
+use rr_parts::{Instances, Pool, Row, Waiting};
 use rr_types::{Command, Fact, Instance, Kept, Name, Op, Refusal, RequestNo, Value, made_of};
 use std::alloc::Global;
 use std::process::Abort;

@@ -1,5 +1,5 @@
 use Rattle.std.proofs.Common.{sym, ◌∙◌}
-use Rattle.rr_list.proofs.OpenLemmas.{open_is}
+use Rattle.rr_parts.proofs.OpenLemmas.{open_is}
 use Rattle.rr_step.proofs.OverLemmas.{open_stays}
 use Rattle.rr_step.proofs.over.open_over.Goals as goal
 

@@ -1,6 +1,6 @@
 use Rattle.std.proofs.Common.{◌≡◌, ◌≤◌, ◌-◌, false}
 use Rattle.rr_model.specs.NodeState.{undecided_from}
-use Rattle.rr_list.specs.Rowed.{AscendFrom}
+use Rattle.rr_parts.specs.Rowed.{AscendFrom}
 use Rattle.rr_step.specs.Steps.{put_rows}
 use Rattle.rr_step.proofs.OverLemmas.{is_decided_at}
 use Rattle.rr_step.proofs.over.undecided_over.Given as goal

@@ -1,5 +1,0 @@
-pub mod Listed
-pub mod Arrived
-pub mod Rowed
-pub mod Marked
-pub mod Opened
