@@ -123,7 +123,7 @@ fn count_staged(alloc: Global, command: &Command) -> Option<usize> {
 /// Of the libraries of a node.
 pub fn show_nodes(rt: &HostRuntime, command: &Command) {
     let alloc = rt.alloc();
-    print(rt, "rr_behaviour and rr_step", count_waiting(alloc));
+    print(rt, "rr_core and rr_step", count_waiting(alloc));
     print(rt, "rr_turn", count_staged(alloc, command));
     if let Some((nodes, node)) = only_node() {
         let suspects = parts::suspected(&mut Heartbeat::new(nodes), node);

@@ -1,4 +1,4 @@
-//! What the first page of `rr_step` shows. The state is one that `rr_behaviour` made.
+//! What the first page of `rr_step` shows. The state is one that `rr_core` made.
 
 use rr_step::{Changes, State, Step};
 use rr_types::RequestNo;

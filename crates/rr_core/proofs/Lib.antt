@@ -12,3 +12,8 @@ pub mod CoveredLemmas
 pub mod MarkOfLemmas
 mod KnowingLaws
 pub mod OpeningLaws
+pub mod RelayLemmas
+pub mod RoundLemmas
+pub mod DueLemmas
+pub mod InputLemmas
+pub mod InputSteps

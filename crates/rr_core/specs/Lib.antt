@@ -6,3 +6,6 @@ pub mod Taken
 pub mod Covered
 pub mod Known
 pub mod Recoveries
+pub mod Dues
+pub mod Rounds
+pub mod Changes

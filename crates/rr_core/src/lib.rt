@@ -54,18 +54,30 @@
 #![tactic(auto)]
 
 mod cleared;
+mod decisions;
+mod due;
+mod entering;
 mod group;
+mod hear;
+mod input;
 mod leaving;
 mod mark;
 mod node_core;
 mod opening;
 mod prefix;
+mod proposing;
+mod questions;
 mod recovery;
+mod restating;
+mod start;
 mod steps;
+mod submit;
+mod tick;
 
 pub use cleared::Cleared;
 pub use mark::Mark;
 pub use node_core::Core;
 pub use opening::Opening;
 pub use recovery::recover;
+pub use start::started;
 pub use steps::Progress;

@@ -1,6 +1,6 @@
 use Rattle.std.proofs.Common.{◌∙◌, ap, sym, inr}
 use Rattle.rr_model.specs.NodeStep.{input_refusal}
-use Rattle.rr_behaviour.proofs.InputSteps.{refused}
+use Rattle.rr_core.proofs.InputSteps.{refused}
 use Rattle.rr_core.proofs.TakenLemmas.{taken_at}
 use Rattle.rr_core.proofs.node_core.Core.step.Goals as goal
 

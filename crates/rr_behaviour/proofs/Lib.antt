@@ -1,5 +1,0 @@
-pub mod RelayLemmas
-pub mod RoundLemmas
-pub mod DueLemmas
-pub mod InputLemmas
-pub mod InputSteps

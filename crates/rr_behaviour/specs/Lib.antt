@@ -1,3 +1,0 @@
-pub mod Dues
-pub mod Rounds
-pub mod Changes
