@@ -1,7 +1,6 @@
 //! What the first page of `rr_core` shows.
 
-use rr_core::started;
-use rr_step::State;
+use rr_core::{State, started};
 use rr_types::{NodeId, Nodes, Promise};
 use std::alloc::{AllocError, Global};
 

@@ -8,14 +8,13 @@ use crate::{
     journal, json, list, lively, locked, node, page, parts, places, registry, script, shell, step,
     stream, sweep, talk, tape, text, types, verify, window, wire, words,
 };
-use rr_core::recover;
+use rr_core::{State, recover};
 use rr_disk::MemDisk;
 use rr_folders::Reading;
 use rr_journal::Journal;
 use rr_node::Node;
 use rr_parts::Heartbeat;
 use rr_registry::{Numbered, Registry};
-use rr_step::State;
 use rr_stream::{Counted, NamedText};
 use rr_text::Schedule;
 use rr_turn::Locked;
@@ -123,7 +122,7 @@ fn count_staged(alloc: Global, command: &Command) -> Option<usize> {
 /// Of the libraries of a node.
 pub fn show_nodes(rt: &HostRuntime, command: &Command) {
     let alloc = rt.alloc();
-    print(rt, "rr_core and rr_step", count_waiting(alloc));
+    print(rt, "rr_core and rr_core", count_waiting(alloc));
     print(rt, "rr_turn", count_staged(alloc, command));
     if let Some((nodes, node)) = only_node() {
         let suspects = parts::suspected(&mut Heartbeat::new(nodes), node);

@@ -1,6 +1,6 @@
-//! What the first page of `rr_step` shows. The state is one that `rr_core` made.
+//! What the first page of `rr_core` shows. The state is one that `rr_core` made.
 
-use rr_step::{Changes, State, Step};
+use rr_core::{Changes, State, Step};
 use rr_types::RequestNo;
 use std::alloc::{AllocError, Global};
 

@@ -17,9 +17,9 @@ use Rattle.rr_model.specs.NodeState.{NodeState, Tally, Row, row_of, standing_at,
 use Rattle.rr_model.specs.NodeParts.{is_estimate_beside, free_command}
 use Rattle.rr_model.specs.NodeDue.{Due, due, due_at, due_of_row, due_of_coordinator, due_of_participant, is_majority, first_due, carry_out, settle_within}
 use Rattle.rr_model.specs.NodeDue.Due.{Begin}
-use Rattle.rr_step.specs.Places.{first_free}
-use Rattle.rr_step.specs.Steps as steps
-use Rattle.rr_step.proofs.SpentLemmas.{find_same}
+use Rattle.rr_core.specs.Places.{first_free}
+use Rattle.rr_core.specs.Steps as steps
+use Rattle.rr_core.proofs.SpentLemmas.{find_same}
 use Rattle.rr_core.proofs.RoundLemmas.{first_free_is}
 
 -- nothing is due for a row that has decided, and what is due for an open one is due for its row

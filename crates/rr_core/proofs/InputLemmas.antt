@@ -4,7 +4,7 @@ use Rattle.std.proofs.lemmas.Bool.{ltb-true, ne_eqb, eqb-true, eqb-false, falseâ
 use Rattle.rr_types.specs.declared.message.Body.{Body}
 use Rattle.rr_types.specs.Standings.{is_undecided, round_of}
 use Rattle.rr_model.specs.NodeState.{NodeState, Row, everyone, others, is_decided_request, row_of, is_decided, undecided_from, first_undecided, standing_at}
-use Rattle.rr_step.specs.Steps.{Stepped, stepped}
+use Rattle.rr_core.specs.Steps.{Stepped, stepped}
 use Rattle.rr_model.specs.NodeParts.{owe, pool_add}
 use Rattle.rr_model.specs.NodeStep.{wait_for, is_waiting, lowest_in_round, advance_refusal}
 use Rattle.rr_types.specs.declared.command.Command.{Command}

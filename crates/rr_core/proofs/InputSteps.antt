@@ -8,7 +8,7 @@ use Rattle.rr_types.specs.declared.refusal.Refusal.TheVariants.{TooLarge, OutOfM
 use Rattle.rr_model.specs.NodeState.{NodeState, next_number}
 use Rattle.rr_model.specs.NodeDue.{settle}
 use Rattle.rr_model.specs.NodeStep.{taken_in, node_step, input_refusal, refusal_of}
-use Rattle.rr_step.specs.Steps.{Stepped, stepped, Changed, combined, IsFitting}
+use Rattle.rr_core.specs.Steps.{Stepped, stepped, Changed, combined, IsFitting}
 use Rattle.rr_core.specs.Changes.{IsSettled, IsStep}
 
 -- the node's step: what the input does at once, and then all that is due

@@ -17,3 +17,12 @@ pub mod RoundLemmas
 pub mod DueLemmas
 pub mod InputLemmas
 pub mod InputSteps
+pub mod RowLemmas
+pub mod OweLemmas
+pub mod OverLemmas
+pub mod PoolLemmas
+pub mod TailLemmas
+pub mod SpentLemmas
+pub mod SettledLemmas
+pub mod StandLemmas
+pub mod StageLemmas

@@ -11,7 +11,7 @@ use Rattle.rr_registry.specs.Kept.{Kept}
 use Rattle.rr_model.specs.NodeState.{NodeState}
 use Rattle.rr_model.specs.NodeStep.{group_taken, running_group, group_put_back, marked_running, started}
 use Rattle.rr_model.proofs.NodeSteady.{started_stays}
-use Rattle.rr_step.specs.Steps.{Changed, combined}
+use Rattle.rr_core.specs.Steps.{Changed, combined}
 use Rattle.rr_core.specs.Marks.{Marked, mark_of}
 use Rattle.rr_core.proofs.GroupLemmas.{runs_is}
 use Rattle.rr_core.proofs.MarkLemmas.{IsAcked}

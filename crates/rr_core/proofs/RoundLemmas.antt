@@ -10,8 +10,8 @@ use Rattle.rr_types.specs.Standings.{estimate_of, is_undecided, round_of, stamp_
 use Rattle.rr_types.specs.Rounds.{OpenAt, coordinator_of}
 use Rattle.rr_model.specs.NodeState.{NodeState, Row, everyone, next_number, standing_at, open_instances}
 use Rattle.rr_model.specs.NodeParts.{owe, stage, leave_round, enter, enter_with, propose, restate, backing_at, free_command}
-use Rattle.rr_step.specs.Steps.{Stepped, stepped}
-use Rattle.rr_step.specs.Places.{HasNoRound, first_free, is_estimate_beside, is_estimate_of}
+use Rattle.rr_core.specs.Steps.{Stepped, stepped}
+use Rattle.rr_core.specs.Places.{HasNoRound, first_free, is_estimate_beside, is_estimate_of}
 use Rattle.rr_core.specs.Rounds.{owe_coordinator}
 
 pub first_free_is : (s : NodeState) (i : ℕ) → first_free s.rows (open_instances s) i s.pool ≡ free_command s i

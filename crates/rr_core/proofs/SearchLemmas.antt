@@ -21,7 +21,7 @@ use Rattle.rr_model.specs.NodeState.{NodeState, decided_prefix}
 use Rattle.rr_model.specs.NodeStep.{group_taken, group_put_back, marked_running, running_group}
 use Rattle.rr_parts.specs.Arrived.{without_first}
 use Rattle.rr_parts.proofs.SameLemmas.{request_is}
-use Rattle.rr_step.specs.Steps.{Changed, combined}
+use Rattle.rr_core.specs.Steps.{Changed, combined}
 use Rattle.rr_core.specs.Kept.{IsKept}
 use Rattle.rr_core.specs.Searched.{IsSearched}
 use Rattle.rr_core.proofs.MarkLemmas.{replied_where, take_next}

@@ -14,7 +14,7 @@ use Rattle.rr_types.specs.declared.input.Input.{Input}
 use Rattle.rr_types.specs.declared.message.Message.{Message}
 use Rattle.rr_types.specs.declared.input.Input.TheVariants.{Submit, Suspect, Tick, Advance, Hear}
 use Rattle.rr_model.specs.NodeStep.{taken_in, node_step, input_refusal, refusal_of, restored, started}
-use Rattle.rr_step.specs.Steps.{Changed, combined}
+use Rattle.rr_core.specs.Steps.{Changed, combined}
 use Rattle.rr_core.specs.Changes.{IsStep}
 use Rattle.rr_core.proofs.InputSteps.{step_is}
 use Rattle.rr_core.specs.Lawful.{IsLawful}

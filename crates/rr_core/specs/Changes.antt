@@ -7,7 +7,7 @@ use Rattle.rr_types.specs.declared.input.Input.{Input}
 use Rattle.rr_types.specs.declared.message.Message.{Message}
 use Rattle.rr_types.specs.declared.input.Input.TheVariants.{Submit}
 use Rattle.rr_model.specs.NodeStep.{node_step, refusal_of}
-use Rattle.rr_step.specs.Steps.{Changed, combined, IsFitting}
+use Rattle.rr_core.specs.Steps.{Changed, combined, IsFitting}
 
 -- whether an input is a command whose request the decided prefix holds
 abbrev pub is_repeated : Input Message → NodeState → Bool

@@ -9,3 +9,5 @@ pub mod Recoveries
 pub mod Dues
 pub mod Rounds
 pub mod Changes
+pub mod Places
+pub mod Steps

@@ -6,9 +6,9 @@ ghost use Rattle.rr_types.specs.Standings.{is_undecided};
 ghost use Rattle.rr_model.specs.NodeState.{standing_at};
 ghost use Rattle.rr_model.specs.NodeParts.{conclude};
 ghost use Rattle.rr_model.specs.NodeStep.{answer, heard_body};
-ghost use Rattle.rr_step.specs.Steps.{stepped};
+ghost use Rattle.rr_core.specs.Steps.{stepped};
 
-use rr_step::Step;
+use crate::step::Step;
 use rr_types::{Body, Command, Fact, Instance, NodeId};
 use std::alloc::AllocError;
 

@@ -5,14 +5,14 @@ ghost use Rattle.rr_types.specs.declared.promise.Standing.TheVariants as stands;
 ghost use Rattle.rr_types.specs.Standings.{round_of};
 ghost use Rattle.rr_model.specs.NodeState.{open_instances};
 ghost use Rattle.rr_model.specs.NodeDue.{due_of_coordinator, due_of_participant, due_of_row, first_due, due, carry_out, settle};
-ghost use Rattle.rr_step.specs.Steps.{stepped, IsSpent};
+ghost use Rattle.rr_core.specs.Steps.{stepped, IsSpent};
 ghost use Rattle.rr_core.specs.Dues.{meaning_of, due_in, MovesBelowLast, CanBeCarriedOut};
 
 use crate::decisions::conclude;
 use crate::entering::{begin, enter};
 use crate::proposing::propose;
+use crate::step::Step;
 use rr_parts::{Row, Tally};
-use rr_step::Step;
 use rr_types::{Command, Instance, Op, OpenStanding, Refusal, Round, coordinator, made_of};
 use std::alloc::AllocError;
 

@@ -4,9 +4,9 @@ ghost use Rattle.std.specs.Prelude.{◌≡◌, ◌<◌, true, None, Some, OnOk};
 ghost use Rattle.rr_types.specs.Standings.{round_of, is_undecided};
 ghost use Rattle.rr_model.specs.NodeState.{standing_at};
 ghost use Rattle.rr_model.specs.NodeParts.{free_command, enter, leave_round, enter_with, entering_estimate};
-ghost use Rattle.rr_step.specs.Steps.{stepped};
+ghost use Rattle.rr_core.specs.Steps.{stepped};
 
-use rr_step::Step;
+use crate::step::Step;
 use rr_types::{Body, Command, Estimate, Fact, Instance, Round, coordinator};
 use std::alloc::AllocError;
 

@@ -3,14 +3,14 @@
 ghost use Rattle.std.specs.Prelude.{◌≡◌, true, OnOk};
 ghost use Rattle.rr_types.specs.Standings.{is_undecided};
 ghost use Rattle.rr_model.specs.NodeState.{standing_at};
-ghost use Rattle.rr_step.specs.Steps.{stepped};
+ghost use Rattle.rr_core.specs.Steps.{stepped};
 ghost use Rattle.rr_model.specs.NodeStep.{catch_up, acknowledge, take_proposal, take_estimate, heard_body, heard};
 ghost use Rattle.rr_types.specs.declared.message.Body.TheVariants as say;
 
 use crate::decisions::{answer, hear_ask, hear_decision};
 use crate::entering::enter;
 use crate::questions::ask;
-use rr_step::Step;
+use crate::step::Step;
 use rr_types::{
     Body, Command, Estimate, Fact, Instance, Message, NodeId, Refusal, Round, coordinator,
 };

@@ -4,14 +4,15 @@ ghost use Rattle.std.specs.Prelude.{◌≡◌, ◌^◌, ◌≤◌, ◌⊎◌, No
 ghost use Rattle.rr_model.specs.NodeState.{next_number};
 ghost use Rattle.rr_model.specs.NodeDue.{settle};
 ghost use Rattle.rr_model.specs.NodeStep.{taken_in, input_refusal, refusal_of};
-ghost use Rattle.rr_step.specs.Steps.{stepped};
+ghost use Rattle.rr_core.specs.Steps.{stepped};
 ghost use Rattle.rr_core.specs.Changes.{is_repeated, IsSettled, IsStep};
 
 use crate::due::settle;
 use crate::hear::heard;
+use crate::state::State;
+use crate::step::{Changes, Step};
 use crate::submit::{submit_refusal, submitted};
 use crate::tick::{advance_refusal, advanced, ticked_on};
-use rr_step::{Changes, State, Step};
 use rr_types::{Input, Message, Refusal};
 use std::alloc::{AllocError, Global};
 

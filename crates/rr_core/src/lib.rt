@@ -53,25 +53,36 @@
 //! ```
 #![tactic(auto)]
 
+mod absorb;
 mod cleared;
+mod copies;
 mod decisions;
 mod due;
 mod entering;
+mod estimates;
 mod group;
 mod hear;
 mod input;
+mod known;
 mod leaving;
+mod lookup;
 mod mark;
 mod node_core;
 mod opening;
+mod over;
+mod owing;
 mod prefix;
 mod proposing;
 mod questions;
 mod recovery;
 mod restating;
+mod rows;
 mod start;
+mod state;
+mod step;
 mod steps;
 mod submit;
+mod tally;
 mod tick;
 
 pub use cleared::Cleared;
@@ -80,4 +91,6 @@ pub use node_core::Core;
 pub use opening::Opening;
 pub use recovery::recover;
 pub use start::started;
+pub use state::State;
+pub use step::{Changes, Step};
 pub use steps::Progress;

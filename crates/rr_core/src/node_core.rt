@@ -6,7 +6,7 @@ ghost use Rattle.rr_model.specs.NodeStep.{node_step, input_refusal, refusal_of, 
 ghost use Rattle.rr_types.specs.declared.refusal.Refusal.{Refusal};
 ghost use Rattle.rr_types.specs.Promises.{all_fit};
 ghost use Rattle.rr_types.specs.Registry.{registry_of, reply_of};
-ghost use Rattle.rr_step.specs.Steps.{combined};
+ghost use Rattle.rr_core.specs.Steps.{combined};
 ghost use Rattle.rr_core.specs.Changes.{is_repeated};
 ghost use Rattle.rr_core.specs.Taken.{CanBeTaken};
 ghost use Rattle.rr_core.specs.Covered.{LeavesCovered};
@@ -19,9 +19,10 @@ use crate::leaving::{Searched, is_any_answered, take_acknowledged, take_leaving}
 use crate::mark::Mark;
 use crate::prefix::registry_of_prefix;
 use crate::start::started;
+use crate::state::State;
+use crate::step::Changes;
 use rr_journal::{Opened, Synced};
 use rr_registry::{Entries, Registry};
-use rr_step::{Changes, State};
 use rr_types::{
     Command, Group, Input, Instance, Message, NodeId, NodeSet, Nodes, Promise, Refusal, Reply,
     RequestNo,

@@ -4,8 +4,8 @@ ghost use Rattle.std.specs.Prelude.{◌≡◌, IfOk};
 ghost use Rattle.rr_model.specs.NodeState.{decided_prefix};
 ghost use Rattle.rr_registry.specs.Kept.{kept_of};
 
+use crate::state::State;
 use rr_registry::Registry;
-use rr_step::State;
 use std::alloc::{AllocError, Global};
 
 /// The registry of the decided prefix, made from nothing.

@@ -2,9 +2,9 @@
 
 ghost use Rattle.std.specs.Prelude.{◌≡◌, OnOk};
 ghost use Rattle.rr_model.specs.NodeParts.{propose};
-ghost use Rattle.rr_step.specs.Steps.{stepped};
+ghost use Rattle.rr_core.specs.Steps.{stepped};
 
-use rr_step::Step;
+use crate::step::Step;
 use rr_types::{Body, Command, Fact, Instance, Round};
 use std::alloc::AllocError;
 

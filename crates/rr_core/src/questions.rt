@@ -4,9 +4,9 @@ ghost use Rattle.std.specs.Prelude.{◌≡◌, ◌<◌, ◌&&◌, not, [], ◌�
 ghost use Rattle.rr_types.specs.Limits.{instance_count};
 ghost use Rattle.rr_model.specs.NodeState.{first_undecided, others};
 ghost use Rattle.rr_model.specs.NodeStep.{is_list_full, is_behind, ask};
-ghost use Rattle.rr_step.specs.Steps.{stepped};
+ghost use Rattle.rr_core.specs.Steps.{stepped};
 
-use rr_step::Step;
+use crate::step::Step;
 use rr_types::{Body, Instance, NodeId};
 use std::alloc::AllocError;
 

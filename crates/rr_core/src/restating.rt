@@ -3,12 +3,12 @@
 ghost use Rattle.std.specs.Prelude.{◌≡◌, OnOk, Some};
 ghost use Rattle.rr_model.specs.NodeState.{standing_at};
 ghost use Rattle.rr_model.specs.NodeParts.{restate, restate_all, backing_at};
-ghost use Rattle.rr_step.specs.Steps.{stepped};
+ghost use Rattle.rr_core.specs.Steps.{stepped};
 ghost use Rattle.rr_core.specs.Rounds.{owe_coordinator};
 ghost use Rattle.rr_types.specs.declared.promise.Standing.TheVariants as stands;
 
+use crate::step::Step;
 use rr_parts::Backing;
-use rr_step::Step;
 use rr_types::{Body, Command, Estimate, Instance, Op, OpenStanding, coordinator, made_of};
 use std::alloc::AllocError;
 

@@ -3,11 +3,12 @@
 ghost use Rattle.std.specs.Prelude.{◌≡◌, IfOk};
 ghost use Rattle.rr_model.specs.NodeState.{open_instances};
 ghost use Rattle.rr_model.specs.NodeParts.{restate_all};
-ghost use Rattle.rr_step.specs.Steps.{combined, IsFitting};
+ghost use Rattle.rr_core.specs.Steps.{combined, IsFitting};
 ghost use Rattle.rr_model.specs.NodeStep.{started};
 
 use crate::restating::restate_all;
-use rr_step::{Changes, State, Step};
+use crate::state::State;
+use crate::step::{Changes, Step};
 use rr_types::{NodeId, Nodes, Promise};
 use std::alloc::{AllocError, Global};
 

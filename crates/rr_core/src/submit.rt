@@ -2,11 +2,12 @@
 
 ghost use Rattle.std.specs.Prelude.{◌≡◌, OnOk};
 ghost use Rattle.rr_model.specs.NodeState.{decided_prefix};
-ghost use Rattle.rr_step.specs.Steps.{stepped};
+ghost use Rattle.rr_core.specs.Steps.{stepped};
 ghost use Rattle.rr_types.specs.Registry.{has_request};
 ghost use Rattle.rr_model.specs.NodeStep.{submitted, submit_refusal};
 
-use rr_step::{State, Step};
+use crate::state::State;
+use crate::step::Step;
 use rr_types::{Body, Command, Refusal};
 use std::alloc::AllocError;
 

@@ -1,13 +1,14 @@
 //! A tick and an advance.
 
 ghost use Rattle.std.specs.Prelude.{◌≡◌, None, OnOk};
-ghost use Rattle.rr_step.specs.Steps.{stepped};
+ghost use Rattle.rr_core.specs.Steps.{stepped};
 ghost use Rattle.rr_model.specs.NodeStep.{ticked_on, advanced, advance_refusal};
 
 use crate::entering::enter;
 use crate::questions::ask_if_behind;
 use crate::restating::restate_all;
-use rr_step::{State, Step};
+use crate::state::State;
+use crate::step::Step;
 use rr_types::{Body, Refusal, Round};
 use std::alloc::AllocError;
 

@@ -1,7 +1,7 @@
 use Rattle.std.proofs.Common.{◌≡◌, ℕ, ◌-◌, ◌^◌, ap, sym, ◌∙◌, arith}
 use Rattle.rr_model.specs.NodeState.{NodeState}
 use Rattle.rr_model.specs.NodeDue.{settle_within}
-use Rattle.rr_step.specs.Steps.{Stepped, stepped}
+use Rattle.rr_core.specs.Steps.{Stepped, stepped}
 use Rattle.rr_core.proofs.DueLemmas.{settle_none}
 use Rattle.rr_core.proofs.due.settle.Goals as goal
 

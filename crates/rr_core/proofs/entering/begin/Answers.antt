@@ -1,7 +1,7 @@
 use Rattle.std.proofs.Common.{◌≡◌, ℕ, ap, ◌∙◌}
 use Rattle.rr_types.specs.Rounds.{Estimated}
 use Rattle.rr_model.specs.NodeParts.{enter_with}
-use Rattle.rr_step.specs.Steps.{stepped}
+use Rattle.rr_core.specs.Steps.{stepped}
 use Rattle.rr_core.proofs.RoundLemmas.{begins}
 use Rattle.rr_core.proofs.entering.begin.Goals as goal
 

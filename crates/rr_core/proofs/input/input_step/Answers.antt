@@ -1,6 +1,6 @@
 use Rattle.std.proofs.Common.{◌≡◌, ◌∙◌, ap}
 use Rattle.rr_model.specs.NodeStep.{taken_in}
-use Rattle.rr_step.specs.Steps.{stepped}
+use Rattle.rr_core.specs.Steps.{stepped}
 use Rattle.rr_core.proofs.InputSteps.{refused_of}
 use Rattle.rr_core.proofs.input.input_step.Goals as goal
 

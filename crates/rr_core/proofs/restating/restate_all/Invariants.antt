@@ -1,6 +1,6 @@
 use Rattle.std.proofs.Common.{◌≡◌, drop}
 use Rattle.rr_model.specs.NodeParts.{restate_all}
-use Rattle.rr_step.specs.Steps.{stepped}
+use Rattle.rr_core.specs.Steps.{stepped}
 use Rattle.rr_core.proofs.restating.restate_all.Given as goal
 
 abbrev pub invariant-loop-instance : goal.invariant-loop-instance

@@ -3,7 +3,7 @@ use Rattle.std.specs.List.{list_any}
 use Rattle.std.proofs.lemmas.Bool.{false≢true}
 use Rattle.rr_registry.specs.Kept.{kept_reply}
 use Rattle.rr_model.specs.NodeState.{NodeState}
-use Rattle.rr_step.specs.Steps.{Changed}
+use Rattle.rr_core.specs.Steps.{Changed}
 use Rattle.rr_core.specs.declared.node_core.Core.TheInside.{Inside}
 use Rattle.rr_core.specs.Kept.{IsKept}
 use Rattle.rr_core.specs.Marks.{mark_of}

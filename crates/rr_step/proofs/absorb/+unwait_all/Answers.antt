@@ -1,5 +1,0 @@
-use Rattle.rr_step.proofs.TailLemmas.{unlast}
-use Rattle.rr_step.proofs.absorb.+unwait_all.Goals as goal
-
-pub returns-then-requests-gt0 : goal.returns-then-requests-gt0
-returns-then-requests-gt0 t c = unlast c.args.waiting.now c.args.requests.now _ _ c.if-requests-gt0.true c.unwait_all.ensures c.take_back.ensures

@@ -1,5 +1,0 @@
-use Rattle.std.proofs.Common.{length}
-use Rattle.rr_step.proofs.absorb.+wait_all.Given as goal
-
-abbrev pub decreases-wait_all : goal.decreases-wait_all
-decreases-wait_all l = length l.requests.now

@@ -1,5 +1,0 @@
-use Rattle.rr_step.proofs.PoolLemmas.{taken_step}
-use Rattle.rr_step.proofs.absorb.take_all.Goals as goal
-
-pub loop-request-preserved : goal.loop-request-preserved
-loop-request-preserved c = taken_step c.args.taken.now c.args.pool.now _ _ c.loop-request.request-index _ c.loop-request-test.true c.loop-request.invariant c.remove.ensures
