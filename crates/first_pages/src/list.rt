@@ -1,6 +1,6 @@
-//! What the first page of `rr_parts` shows: the requests that wait, which are one of a node's tables.
+//! What the first page of `rr_state` shows: the requests that wait, which are one of a node's tables.
 
-use rr_parts::Waiting;
+use rr_state::Waiting;
 use rr_types::RequestNo;
 use std::alloc::{AllocError, Global};
 

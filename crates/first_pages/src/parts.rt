@@ -1,6 +1,6 @@
-//! What the first page of `rr_parts` shows: a failure detector, which is one of the parts of a node.
+//! What the first page of `rr_state` shows: a failure detector, which is one of the parts of a node.
 
-use rr_parts::Heartbeat;
+use rr_state::Heartbeat;
 use rr_types::{NodeId, NodeSet};
 
 /// Whom a node suspects behind five ticks, in which it has heard from one node alone: all but this one.

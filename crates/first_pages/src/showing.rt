@@ -13,7 +13,7 @@ use rr_disk::MemDisk;
 use rr_folders::Reading;
 use rr_journal::Journal;
 use rr_node::Node;
-use rr_parts::Heartbeat;
+use rr_state::Heartbeat;
 use rr_registry::{Numbered, Registry};
 use rr_stream::{Counted, NamedText};
 use rr_text::Schedule;
@@ -53,7 +53,7 @@ pub fn show_values(rt: &HostRuntime, command: &Command) {
         "rr_registry",
         places::put(&mut Numbered::new(alloc)).ok(),
     );
-    print(rt, "rr_parts", list::waits(alloc, REQUEST).ok());
+    print(rt, "rr_state", list::waits(alloc, REQUEST).ok());
 }
 
 /// How many facts a new journal has once it has one: that an instance has decided on this command.
@@ -126,7 +126,7 @@ pub fn show_nodes(rt: &HostRuntime, command: &Command) {
     print(rt, "rr_turn", count_staged(alloc, command));
     if let Some((nodes, node)) = only_node() {
         let suspects = parts::suspected(&mut Heartbeat::new(nodes), node);
-        print(rt, "rr_parts", Some(suspects.contains(node)));
+        print(rt, "rr_state", Some(suspects.contains(node)));
         let stance = node::start(alloc, &mut Node::new(nodes, node, MemDisk::new(alloc)));
         print(rt, "rr_node", stance.ok());
         let message = Message {

@@ -7,7 +7,7 @@ use Rattle.rr_types.specs.declared.message.Message.{Message}
 use Rattle.rr_model.specs.NodeState.{Owed}
 use Rattle.rr_model.specs.NodeStep.{may_leave}
 use Rattle.rr_model.proofs.NodeStages.{found_passes}
-use Rattle.rr_parts.specs.Owing.{is_free, IsOwn}
+use Rattle.rr_state.specs.Owing.{is_free, IsOwn}
 use Rattle.rr_core.specs.Covered.{IsCovered}
 use Rattle.rr_core.specs.Marks.{Marked, IsFreeOrBacked}
 

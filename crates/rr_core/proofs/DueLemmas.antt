@@ -8,7 +8,7 @@ use Rattle.std.proofs.lemmas.List.{at_drop_more}
 use Rattle.rr_types.specs.Nodes.{has_member, joined}
 use Rattle.rr_types.specs.Rounds.{OpenAt, coordinator_of, majority_of}
 use Rattle.rr_types.specs.declared.promise.Standing.TheVariants.{Decided, Open}
-use Rattle.rr_parts.proofs.TallyLemmas.{empty_has, empty_lacks, joined_empty}
+use Rattle.rr_state.proofs.TallyLemmas.{empty_has, empty_lacks, joined_empty}
 use Rattle.rr_types.specs.declared.command.Command.{Command}
 use Rattle.rr_types.specs.Commands.{is_same_command}
 use Rattle.rr_types.specs.Standings.{estimate_of, is_undecided}

@@ -8,9 +8,9 @@ use Rattle.rr_model.specs.NodeState.{Owed}
 use Rattle.rr_model.specs.NodeStep.{may_leave, without_first_leaving, without_first_held}
 use Rattle.rr_types.specs.Registry.{is_same_request}
 use Rattle.std.proofs.lemmas.Bool.{eq-eqb, false≢true}
-use Rattle.rr_parts.specs.Arrived.{without_first}
-use Rattle.rr_parts.specs.Owing as mark
-use Rattle.rr_parts.proofs.SameLemmas.{request_is}
+use Rattle.rr_state.specs.Arrived.{without_first}
+use Rattle.rr_state.specs.Owing as mark
+use Rattle.rr_state.proofs.SameLemmas.{request_is}
 
 -- tests that agree find the same
 pub find_same : {X : Type 0} (p q : X → Bool) (xs : List X) → ((x : X) → p x ≡ q x) → find p xs ≡ find q xs

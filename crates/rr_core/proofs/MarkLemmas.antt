@@ -26,12 +26,12 @@ use Rattle.rr_model.specs.NodeState.{NodeState, Row, decided_prefix, standing_at
 use Rattle.rr_model.specs.NodeStep.{group_taken, group_put_back, marked_running, running_group, message_left, next_acknowledged, acknowledged}
 use Rattle.rr_model.proofs.Fits.{take_both, fit_first, fit_later}
 use Rattle.rr_model.proofs.Promised.{standing_in-take_on}
-use Rattle.rr_parts.specs.Arrived.{without_first}
-use Rattle.rr_parts.specs.Listed.{AllInRound, KeepsPromised, HaveRows}
-use Rattle.rr_parts.proofs.MarkLemmas.{ascend_all, none_before}
+use Rattle.rr_state.specs.Arrived.{without_first}
+use Rattle.rr_state.specs.Listed.{AllInRound, KeepsPromised, HaveRows}
+use Rattle.rr_state.proofs.MarkLemmas.{ascend_all, none_before}
 use Rattle.rr_core.specs.Lawful.{IsLawful, unmarked_facts}
 use Rattle.rr_core.specs.Kept.{IsKept}
-use Rattle.rr_parts.proofs.SameLemmas.{and_left, and_right, request_is}
+use Rattle.rr_state.proofs.SameLemmas.{and_left, and_right, request_is}
 use Rattle.rr_core.proofs.LeavingLemmas.{find_same, without_held}
 
 -- facts that moved between the running group and those staged are the same facts

@@ -16,8 +16,8 @@ use Rattle.rr_types.specs.Standings.{is_undecided}
 use Rattle.rr_types.specs.declared.fact.Fact.TheVariants.{Enter, Propose, Adopt, Decide}
 use Rattle.rr_model.specs.NodeState.{NodeState, next_number, Row, row_of, put_row, is_decided, decided_command, undecided_from, lowest_undecided}
 use Rattle.rr_model.specs.NodeParts.{row_after, fresh_row, rows_after}
-use Rattle.rr_parts.specs.Rowed.{AscendFrom, has_decided}
-use Rattle.rr_parts.specs.Listed as listed
+use Rattle.rr_state.specs.Rowed.{AscendFrom, has_decided}
+use Rattle.rr_state.specs.Listed as listed
 use Rattle.rr_core.specs.Steps.{put_rows, KeepsStanding, KeepsDecision, KeepDecisions, Stepped, stepped, IsDecidedFact}
 
 -- the row put there is the one of its instance

@@ -8,7 +8,7 @@ use Rattle.std.proofs.lemmas.List.Elements.{filter-append, All-append, All-map}
 use Rattle.rr_types.specs.declared.message.Body.{Body}
 use Rattle.rr_model.specs.NodeState.{Owed}
 use Rattle.rr_model.specs.NodeParts.{messages_to}
-use Rattle.rr_parts.specs.Owing.{is_free, IsOwn}
+use Rattle.rr_state.specs.Owing.{is_free, IsOwn}
 use Rattle.rr_core.specs.declared.owing.Reach.{Reach}
 use Rattle.rr_core.specs.declared.owing.Reach.TheVariants.{Everyone, Others}
 use Rattle.rr_core.specs.Places.{message_to, nodes_beside, reached, is_reached}

@@ -11,7 +11,7 @@ use Rattle.rr_types.specs.Rounds.{Estimated, coordinator_of}
 use Rattle.rr_types.specs.Standings.{fits, is_undecided, round_of, stamp_of, proposal_of, carries_on}
 use Rattle.rr_model.specs.NodeState.{NodeState, standing_at, next_number, everyone, others}
 use Rattle.rr_model.specs.NodeParts.{owe, backing_at, stage, enter, enter_with, entering_estimate, leave_round, free_command, restate, restate_all, conclude, propose}
-use Rattle.rr_parts.proofs.SameLemmas.{both, command_same}
+use Rattle.rr_state.proofs.SameLemmas.{both, command_same}
 use Rattle.rr_core.proofs.QuietLaws.{IsQuiet, IsStep, step_none, step_then, quiet_none, quiet_then, quiet_step, owe_quiet, stage_step}
 
 -- a decision is staged

@@ -13,7 +13,7 @@ use Rattle.rr_types.specs.Registry.{is_same_request, has_request}
 use Rattle.rr_model.specs.NodeState.{NodeState, Row}
 use Rattle.rr_core.specs.Places.{first_free, is_estimate_beside, is_free}
 use Rattle.rr_core.specs.Steps.{Changed, combined, without_requests, AreNew, AreNewRequests}
-use Rattle.rr_parts.proofs.SameLemmas.{request_is}
+use Rattle.rr_state.proofs.SameLemmas.{request_is}
 
 -- nothing is taken out
 pub none_taken : (cs : List Command) → without_requests [] cs ≡ cs

@@ -19,8 +19,8 @@ use Rattle.rr_types.specs.Registry.{has_request, is_same_request}
 use Rattle.rr_registry.specs.Kept.{Kept, kept_reply}
 use Rattle.rr_model.specs.NodeState.{NodeState, decided_prefix}
 use Rattle.rr_model.specs.NodeStep.{group_taken, group_put_back, marked_running, running_group}
-use Rattle.rr_parts.specs.Arrived.{without_first}
-use Rattle.rr_parts.proofs.SameLemmas.{request_is}
+use Rattle.rr_state.specs.Arrived.{without_first}
+use Rattle.rr_state.proofs.SameLemmas.{request_is}
 use Rattle.rr_core.specs.Steps.{Changed, combined}
 use Rattle.rr_core.specs.Kept.{IsKept}
 use Rattle.rr_core.specs.Searched.{IsSearched}

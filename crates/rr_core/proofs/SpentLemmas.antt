@@ -12,7 +12,7 @@ use Rattle.rr_types.specs.declared.promise.Standing.{Standing}
 use Rattle.rr_types.specs.Commands.{is_same_command}
 use Rattle.rr_types.specs.Standings.{estimate_of}
 use Rattle.rr_model.specs.NodeState.{Row, row_of, put_row, is_decided, lowest_undecided}
-use Rattle.rr_parts.specs.Rowed.{AscendFrom}
+use Rattle.rr_state.specs.Rowed.{AscendFrom}
 use Rattle.rr_core.specs.Places.{first_free, is_estimate_of, is_estimate_beside}
 use Rattle.rr_core.specs.Steps.{put_rows, without_requests, IsSpent, IsFrontSpent}
 use Rattle.rr_core.proofs.OverLemmas.{row_of_put, open_stays, tally_keeps, changed_ascend}

@@ -22,11 +22,11 @@ use Rattle.rr_types.specs.Rounds.{Estimated, OpenAt}
 use Rattle.rr_types.specs.Standings.{estimate_of}
 use Rattle.rr_model.specs.NodeState.{NodeState, Row, next_number, row_of, put_row, standing_at, undecided_from, lowest_undecided, open_instances, is_open}
 use Rattle.rr_model.specs.NodeParts.{fresh_row, row_after, rows_after, pool_after, stage}
-use Rattle.rr_parts.proofs.SameLemmas.{and_left, and_right, both, command_is}
-use Rattle.rr_parts.specs.Listed as listed
-use Rattle.rr_parts.specs.Opened.{open_in}
-use Rattle.rr_parts.specs.Rowed.{AscendFrom, is_undecided}
-use Rattle.rr_parts.proofs.OpenLemmas.{slides, runs_short, open_is}
+use Rattle.rr_state.proofs.SameLemmas.{and_left, and_right, both, command_is}
+use Rattle.rr_state.specs.Listed as listed
+use Rattle.rr_state.specs.Opened.{open_in}
+use Rattle.rr_state.specs.Rowed.{AscendFrom, is_undecided}
+use Rattle.rr_state.proofs.OpenLemmas.{slides, runs_short, open_is}
 use Rattle.rr_core.specs.Places.{HasNoRound, first_free, is_estimate_of, is_estimate_beside, leaves_estimate, enters_with}
 use Rattle.rr_core.specs.Steps.{Changed, combined, put_rows, without_requests, KeepsStanding, KeepsDecision, IsSpent, IsFrontSpent}
 use Rattle.rr_core.proofs.OverLemmas.{row_of_put, row_is_of, changed_ascend, decisions_stay, after_keeps, first_keeps}

@@ -21,7 +21,7 @@ use Rattle.rr_model.specs.NodeParts.{owe, pool_add, stage, backing_at, enter, re
 use Rattle.rr_model.specs.NodeDue.{settle}
 use Rattle.rr_model.specs.NodeStep.{is_waiting, wait_for, submitted, is_list_full, is_behind, ask, ticked_on, lowest_in_round, advanced, change_tally, count_estimate, count_ack, count_nack, with_vote, catch_up, acknowledge, take_proposal, take_estimate, has_proposed, answer, heard_body, heard}
 use Rattle.rr_core.specs.Lawful.{IsLawful}
-use Rattle.rr_parts.proofs.SameLemmas.{both}
+use Rattle.rr_state.proofs.SameLemmas.{both}
 use Rattle.rr_core.proofs.DueLaws.{settle_step}
 use Rattle.rr_core.proofs.PartLaws.{conclude_step, enter_step, restate_all_quiet}
 use Rattle.rr_core.proofs.QuietLaws.{IsQuiet, IsStep, step_none, step_then, quiet_none, quiet_then, quiet_step, owe_quiet, pool_quiet, wait_quiet, stage_step, standing_of_rows, put-standing, row_of-instance}

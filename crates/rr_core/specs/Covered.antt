@@ -2,7 +2,7 @@
 use Rattle.std.specs.Prelude.{◌≡◌, ◌⊎◌, ℕ, ◌<◌, IsTrue, All, Some}
 use Rattle.rr_model.specs.NodeState.{NodeState, Owed}
 use Rattle.rr_model.specs.NodeStep.{may_leave}
-use Rattle.rr_parts.specs.Owing.{is_free}
+use Rattle.rr_state.specs.Owing.{is_free}
 
 -- a message of this node, which may leave only where it is free or backed by a fact below this number
 abbrev pub IsCovered : ℕ → ℕ → Owed → Type 0

@@ -2,7 +2,7 @@
 use Rattle.std.specs.Prelude.{◌≡◌, ◌⊎◌, ℕ, ◌<◌, Bool, ◌&&◌, ◌==◌, nat_lt, IsTrue, List, Contains, Some}
 use Rattle.rr_types.specs.declared.message.Message.{Message}
 use Rattle.rr_model.specs.NodeState.{NodeState, Owed}
-use Rattle.rr_parts.specs.Owing.{is_free}
+use Rattle.rr_state.specs.Owing.{is_free}
 
 -- the facts of a node below this number are safe
 pub record Marked : Type 0 where

@@ -11,8 +11,8 @@ use Rattle.rr_types.specs.Registry.{is_same_request, has_request}
 use Rattle.rr_types.specs.Limits.{open_count}
 use Rattle.rr_model.specs.NodeState.{NodeState, Row, Watch, Owed, row_of, put_row, lowest_undecided}
 use Rattle.rr_model.specs.NodeDue.{due}
-use Rattle.rr_parts.specs.Owing.{IsOwn}
-use Rattle.rr_parts.specs.Rowed.{has_decided}
+use Rattle.rr_state.specs.Owing.{IsOwn}
+use Rattle.rr_state.specs.Rowed.{has_decided}
 use Rattle.rr_core.specs.Places.{first_free}
 
 -- a node within a step: what it was before, and what it is by now

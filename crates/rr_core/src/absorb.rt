@@ -7,7 +7,7 @@ ghost use Rattle.rr_core.specs.Steps.{combined, without_requests, AreNew, AreNew
 
 use crate::state::State;
 use crate::step::Changes;
-use rr_parts::{Pool, Waiting};
+use rr_state::{Pool, Waiting};
 use rr_types::{Command, Op, RequestNo, made_of};
 use std::alloc::{AllocError, Global};
 

@@ -2,7 +2,7 @@
 //! of its sender covers, or a free message.
 
 ghost use Rattle.std.specs.Prelude.{◌≡◌, ◌↔◌, IsTrue, IsSome, IfSome};
-ghost use Rattle.rr_parts.specs.Owing.{is_free};
+ghost use Rattle.rr_state.specs.Owing.{is_free};
 ghost use Rattle.rr_core.specs.Marks.{clears};
 
 use crate::mark::Mark;

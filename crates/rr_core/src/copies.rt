@@ -4,7 +4,7 @@ ghost use Rattle.std.specs.Prelude.{◌≡◌, IfOk};
 ghost use Rattle.rr_model.specs.NodeStep.{restored};
 
 use crate::state::State;
-use rr_parts::{Heartbeat, Instances, Outbox, Pool, Suspects, Unmarked, Waiting};
+use rr_state::{Heartbeat, Instances, Outbox, Pool, Suspects, Unmarked, Waiting};
 use rr_types::{NodeId, NodeSet, Nodes, Promise};
 use std::alloc::{AllocError, Global};
 

@@ -12,7 +12,7 @@ use crate::decisions::conclude;
 use crate::entering::{begin, enter};
 use crate::proposing::propose;
 use crate::step::Step;
-use rr_parts::{Row, Tally};
+use rr_state::{Row, Tally};
 use rr_types::{Command, Instance, Op, OpenStanding, Refusal, Round, coordinator, made_of};
 use std::alloc::AllocError;
 
@@ -56,7 +56,7 @@ impl<'a> Found<'a> {
     }
 }
 
-#[tactic(auto, using(rr_parts::proofs::TallyLemmas::joined_empty))]
+#[tactic(auto, using(rr_state::proofs::TallyLemmas::joined_empty))]
 fn due_of_coordinator<'a>(
     step: &Step<'_>,
     instance: Instance,

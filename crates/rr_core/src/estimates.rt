@@ -6,7 +6,7 @@ ghost use Rattle.rr_core.specs.Places.{is_estimate_of, is_estimate_beside, is_fr
 
 use crate::known::is_among;
 use crate::step::Step;
-use rr_parts::Values;
+use rr_state::Values;
 use rr_types::{Command, Fact, Instance, OpenStanding, RequestNo};
 
 /// Whether a command is the estimate of an instance.

@@ -11,7 +11,7 @@ ghost use Rattle.rr_core.specs.Marks.{mark_of};
 use crate::mark::Mark;
 use crate::state::State;
 use rr_journal::Synced;
-use rr_parts::are_same_facts;
+use rr_state::are_same_facts;
 use rr_types::{Command, GROUP, Group, Refusal};
 use std::alloc::{AllocError, Global};
 

@@ -7,12 +7,12 @@ ghost use Rattle.rr_model.specs.NodeState.{next_number, row_of, is_decided, is_d
 ghost use Rattle.rr_types.specs.Standings.{round_of};
 ghost use Rattle.rr_types.specs.Limits.{instance_count, last_round};
 ghost use Rattle.rr_model.specs.NodeStep.{is_waiting, is_list_full, lowest_in_round};
-ghost use Rattle.rr_parts.specs.Rowed.{AscendFrom};
-ghost use Rattle.rr_parts.specs.Opened.{open_in};
+ghost use Rattle.rr_state.specs.Rowed.{AscendFrom};
+ghost use Rattle.rr_state.specs.Opened.{open_in};
 
 use crate::over::lowest_in_round_over;
 use crate::state::State;
-use rr_parts::{OpenInstances, Row};
+use rr_state::{OpenInstances, Row};
 use rr_types::{INSTANCES, Instance, OPEN_INSTANCES, RequestNo};
 
 impl State {

@@ -4,8 +4,8 @@ ghost use Rattle.std.specs.Prelude.{◌≡◌, true, None, Some, is_some, find, 
 ghost use Rattle.std.specs.List.{list_any};
 ghost use Rattle.rr_model.specs.NodeStep.{may_leave, next_leaving, message_left};
 ghost use Rattle.rr_registry.specs.Kept.{kept_reply};
-ghost use Rattle.rr_parts.specs.Arrived.{without_first};
-ghost use Rattle.rr_parts.specs.Owing.{IsOwn};
+ghost use Rattle.rr_state.specs.Arrived.{without_first};
+ghost use Rattle.rr_state.specs.Owing.{IsOwn};
 ghost use Rattle.rr_core.specs.Kept.{IsKept};
 ghost use Rattle.rr_core.specs.Marks.{IsFreeOrBacked, mark_of};
 ghost use Rattle.rr_core.specs.Searched.{IsSearched};
@@ -13,7 +13,7 @@ ghost use Rattle.rr_core.specs.Searched.{IsSearched};
 use crate::cleared::{Cleared, Draft};
 use crate::mark::Mark;
 use crate::state::State;
-use rr_parts::{Owed, Waiting};
+use rr_state::{Owed, Waiting};
 use rr_registry::Registry;
 use rr_types::{Reply, RequestNo};
 

@@ -9,12 +9,12 @@ ghost use Rattle.rr_types.specs.Limits.{instance_count};
 ghost use Rattle.rr_model.specs.NodeState as model;
 ghost use Rattle.rr_model.specs.NodeState.{row_of, put_row, is_decided, undecided_from, lowest_undecided};
 ghost use Rattle.rr_model.specs.NodeParts.{rows_after};
-ghost use Rattle.rr_parts.specs.Rowed.{has_decided};
+ghost use Rattle.rr_state.specs.Rowed.{has_decided};
 ghost use Rattle.rr_core.specs.Steps.{put_rows, KeepsDecision, KeepsStanding, KeepDecisions};
 
 use crate::rows::{find_row, has_decided_request};
 use crate::state::State;
-use rr_parts::{OpenInstances, Row, is_any_decided};
+use rr_state::{OpenInstances, Row, is_any_decided};
 use rr_types::{Fact, Instance, OPEN_INSTANCES, RequestNo};
 use std::alloc::{AllocError, Global};
 

@@ -3,10 +3,10 @@
 ghost use Rattle.std.specs.Prelude.{◌≡◌, ◌++◌, [], ◌∷◌, None, not, filter, All, IsTrue, OnOk};
 ghost use Rattle.rr_types.specs.Registry.{is_same_request, has_request};
 ghost use Rattle.rr_model.specs.NodeParts.{messages_to};
-ghost use Rattle.rr_parts.specs.Owing.{is_free, IsOwn};
+ghost use Rattle.rr_state.specs.Owing.{is_free, IsOwn};
 ghost use Rattle.rr_core.specs.Places.{message_to, reached, is_reached};
 
-use rr_parts::Owed;
+use rr_state::Owed;
 use rr_types::{Body, Command, Message, NodeId, Nodes, RequestNo};
 use std::alloc::AllocError;
 

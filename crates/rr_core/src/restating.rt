@@ -8,7 +8,7 @@ ghost use Rattle.rr_core.specs.Rounds.{owe_coordinator};
 ghost use Rattle.rr_types.specs.declared.promise.Standing.TheVariants as stands;
 
 use crate::step::Step;
-use rr_parts::Backing;
+use rr_state::Backing;
 use rr_types::{Body, Command, Estimate, Instance, Op, OpenStanding, coordinator, made_of};
 use std::alloc::AllocError;
 

@@ -6,7 +6,7 @@ ghost use Rattle.std.specs.List.{list_any};
 ghost use Rattle.rr_types.specs.Registry.{is_same_request};
 ghost use Rattle.rr_model.specs.NodeState.{row_of, decided_command};
 
-use rr_parts::Row;
+use rr_state::Row;
 use rr_types::{Instance, RequestNo};
 
 /// The row of an instance.

@@ -1,6 +1,6 @@
 //! What a node that is up knows, as plain data.
 
-use rr_parts::{Heartbeat, Instances, Outbox, Pool, Suspects, Unmarked, Waiting};
+use rr_state::{Heartbeat, Instances, Outbox, Pool, Suspects, Unmarked, Waiting};
 use rr_types::{NodeId, Nodes};
 use std::marker::Model;
 

@@ -10,7 +10,7 @@ ghost use Rattle.rr_model.specs.NodeDetector.{all_ticked, heard_beat, late_nodes
 ghost use Rattle.rr_model.specs.NodeParts.{owe, pool_add, stage, rows_after, pool_after};
 ghost use Rattle.rr_model.specs.NodeDue.{due};
 ghost use Rattle.rr_model.specs.NodeStep.{wait_for, is_waiting, lowest_in_round};
-ghost use Rattle.rr_parts.specs.Owing.{is_free};
+ghost use Rattle.rr_state.specs.Owing.{is_free};
 ghost use Rattle.rr_core.specs.Places.{first_free, reached};
 ghost use Rattle.rr_core.specs.Steps.{stepped, combined, KeepsDecision, KeepsStanding, IsFitting, IsDecidedFact, IsSpent};
 
@@ -19,7 +19,7 @@ use crate::known::is_among;
 use crate::owing::Reach;
 use crate::state::State;
 use crate::{estimates, over, owing};
-use rr_parts::{Backing, Heartbeat, OpenInstances, Owed, Row, Suspects};
+use rr_state::{Backing, Heartbeat, OpenInstances, Owed, Row, Suspects};
 use rr_types::{
     Body, Command, Fact, Instance, NodeId, NodeSet, Nodes, OPEN_INSTANCES, Op, Refusal, RequestNo,
     Standing, made_of,
@@ -183,7 +183,7 @@ impl<'a> Step<'a> {
     }
 
     /// The nodes that the heartbeat detector suspects; a node disregards itself.
-    #[tactic(auto, using(rr_parts::proofs::BitLemmas::late_beside))]
+    #[tactic(auto, using(rr_state::proofs::BitLemmas::late_beside))]
     pub fn late_nodes(&self) -> NodeSet
         ensures { result ≡ late_nodes self.now.state.node self.now.state.watches }
     {

@@ -6,7 +6,7 @@ use Rattle.rr_types.specs.declared.command.RequestNo.{RequestNo}
 use Rattle.rr_types.specs.declared.command.Reply.{Reply}
 use Rattle.rr_types.specs.Registry.{is_same_request, reply_of}
 use Rattle.rr_model.proofs.Replies.{same_reply}
-use Rattle.rr_parts.proofs.SameLemmas.{request_is}
+use Rattle.rr_state.proofs.SameLemmas.{request_is}
 
 -- a request that passes for another is that request
 pub same_request : (p q : RequestNo) → is_same_request p q ≡ true → p ≡ q

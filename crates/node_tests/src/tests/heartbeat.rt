@@ -1,6 +1,6 @@
 //! One node's watch, tick by tick.
 
-use rr_parts::Heartbeat;
+use rr_state::Heartbeat;
 use rr_types::{NodeId, Nodes};
 use std::process::Abort;
 

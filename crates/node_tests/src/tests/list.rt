@@ -1,6 +1,6 @@
 //! The tables in use, with ample memory. What is expected follows from the definitions.
 
-use rr_parts::{Instances, Pool, Row, Waiting};
+use rr_state::{Instances, Pool, Row, Waiting};
 use rr_types::{Command, Fact, Instance, Kept, Name, Op, Refusal, RequestNo, Value, made_of};
 use std::alloc::Global;
 use std::process::Abort;

@@ -1,6 +1,6 @@
 //! Receipts one after another.
 
-use rr_parts::Suspects;
+use rr_state::Suspects;
 use rr_types::{NodeId, NodeSet, Nodes};
 
 #[test]

@@ -1,6 +1,6 @@
 //! Majorities of distinct senders.
 
-use rr_parts::Tally;
+use rr_state::Tally;
 use rr_types::{NodeId, Nodes};
 use std::process::Abort;
 

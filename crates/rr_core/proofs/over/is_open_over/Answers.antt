@@ -1,6 +1,6 @@
 use Rattle.std.proofs.Common.{eqb, sym, ap, ◌∙◌}
 use Rattle.std.specs.List.{list_any}
-use Rattle.rr_parts.proofs.OpenLemmas.{open_is}
+use Rattle.rr_state.proofs.OpenLemmas.{open_is}
 use Rattle.rr_core.proofs.OverLemmas.{open_stays}
 use Rattle.rr_core.proofs.over.is_open_over.Goals as goal
 

@@ -1,6 +1,6 @@
 use Rattle.std.proofs.Common.{◌∙◌, arith}
 use Rattle.rr_core.specs.Steps.{put_rows}
-use Rattle.rr_parts.proofs.OpenLemmas.{fill_step, fill_few}
+use Rattle.rr_state.proofs.OpenLemmas.{fill_step, fill_few}
 use Rattle.rr_core.proofs.over.lowest_over.Goals as goal
 
 pub loop-turn-preserved : goal.loop-turn-preserved

@@ -1,5 +1,5 @@
 use Rattle.std.proofs.Common.{sym, ◌∙◌}
-use Rattle.rr_parts.proofs.OpenLemmas.{open_is}
+use Rattle.rr_state.proofs.OpenLemmas.{open_is}
 use Rattle.rr_core.proofs.OverLemmas.{open_stays}
 use Rattle.rr_core.proofs.over.open_over.Goals as goal
 

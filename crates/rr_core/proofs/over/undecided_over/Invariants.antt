@@ -1,6 +1,6 @@
 use Rattle.std.proofs.Common.{◌≡◌, ◌≤◌, ◌-◌, false}
 use Rattle.rr_model.specs.NodeState.{undecided_from}
-use Rattle.rr_parts.specs.Rowed.{AscendFrom}
+use Rattle.rr_state.specs.Rowed.{AscendFrom}
 use Rattle.rr_core.specs.Steps.{put_rows}
 use Rattle.rr_core.proofs.OverLemmas.{is_decided_at}
 use Rattle.rr_core.proofs.over.undecided_over.Given as goal

@@ -1,7 +1,7 @@
 use Rattle.std.proofs.Common.{◌≡◌, ◌++◌}
 use Rattle.std.specs.Prelude.{All}
 use Rattle.rr_model.specs.NodeParts.{messages_to}
-use Rattle.rr_parts.specs.Owing.{IsOwn}
+use Rattle.rr_state.specs.Owing.{IsOwn}
 use Rattle.rr_core.specs.Places.{reached}
 use Rattle.rr_core.proofs.owing.push_to_reached.Given as goal
 

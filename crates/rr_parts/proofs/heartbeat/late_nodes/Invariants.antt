@@ -1,5 +1,0 @@
-use Rattle.rr_parts.proofs.WatchLemmas.{IsLateSoFar}
-use Rattle.rr_parts.proofs.heartbeat.late_nodes.Given as goal
-
-abbrev pub invariant-loop-index : goal.invariant-loop-index
-invariant-loop-index l = IsLateSoFar l.index l.watches l.late

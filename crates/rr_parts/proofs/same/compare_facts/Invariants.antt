@@ -1,6 +1,0 @@
-use Rattle.std.proofs.Common.{◌≡◌, drop}
-use Rattle.rr_parts.specs.Same.{are_same_facts}
-use Rattle.rr_parts.proofs.same.compare_facts.Given as goal
-
-abbrev pub invariant-loop-index : goal.invariant-loop-index
-invariant-loop-index l = are_same_facts (drop l.index l.facts) (drop l.index l.others) ≡ are_same_facts l.facts l.others
