@@ -3,42 +3,25 @@
 #![tactic(auto)]
 
 mod account;
-mod behaviour;
-mod cluster;
 mod disk;
 mod draw;
 mod explain;
-mod files;
-mod finish;
 mod folders;
 mod frame;
-mod image;
-mod inbox;
 mod journal;
 mod json;
-mod list;
 mod lively;
-mod locked;
 mod model;
 mod node;
-mod page;
-mod parts;
-mod places;
 mod printing;
 mod registry;
-mod script;
 mod shell;
 mod showing;
-mod step;
+mod state;
 mod stream;
-mod sweep;
-mod talk;
-mod tape;
 mod text;
 mod types;
-mod verify;
 mod window;
-mod wire;
 mod words;
 
 use crate::printing::print;
@@ -49,12 +32,10 @@ fn main(rt: HostRuntime) {
     if let (Ok(command), Some(instance)) = (types::claim_of(b"printer"), Instance::new(0)) {
         showing::show_values(&rt, &command);
         showing::show_disks(&rt, instance, &command);
-        showing::show_nodes(&rt, &command);
+        showing::show_nodes(&rt);
         let shown = showing::is_shown(&rt, rt.alloc(), command);
         print(&rt, "rr_window", shown);
     }
-    let taken = inbox::put_and_take(&rt, rt.alloc(), 5);
-    print(&rt, "rr_window", taken.ok());
     showing::show_texts(&rt);
     showing::show_runs(&rt);
     showing::show_program(&rt);

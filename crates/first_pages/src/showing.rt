@@ -4,24 +4,16 @@ ghost use Rattle.std.specs.Prelude.{◌≡◌, ◌<◌, IfSome};
 
 use crate::printing::{print, print_begin, print_text};
 use crate::{
-    account, behaviour, cluster, disk, draw, explain, files, finish, folders, frame, image,
-    journal, json, list, lively, locked, node, page, parts, places, registry, script, shell, step,
-    stream, sweep, talk, tape, text, types, verify, window, wire, words,
+    account, disk, draw, explain, folders, frame, journal, json, lively, node, registry, shell,
+    state, stream, text, types, window, words,
 };
-use rr_core::{State, recover};
 use rr_disk::MemDisk;
-use rr_folders::Reading;
 use rr_journal::Journal;
 use rr_node::Node;
+use rr_registry::Registry;
 use rr_state::Heartbeat;
-use rr_registry::{Numbered, Registry};
-use rr_stream::{Counted, NamedText};
-use rr_text::Schedule;
-use rr_turn::Locked;
-use rr_types::{
-    Body, Command, Fact, Group, Instance, Message, Name, NodeId, Nodes, Op, Refusal, RequestNo,
-    made_of,
-};
+use rr_stream::Counted;
+use rr_types::{Command, Fact, Group, Instance, Name, NodeId, Nodes, Op, Refusal, made_of};
 use rr_window::{NewList, Sight, WindowName, open};
 use std::alloc::Global;
 use std::marker::Brand;
@@ -29,9 +21,6 @@ use std::sync::Wait;
 
 /// A schedule of one node that begins to open its disk.
 const OPENING: &[u8] = b"nodes 1\nrestart 0\ndev 0\n";
-
-/// The request of the command that is used here.
-const REQUEST: RequestNo = RequestNo { client: 7, seq: 1 };
 
 /// The only node of a cluster.
 fn only_node() -> Option<(Nodes, NodeId)>
@@ -48,12 +37,6 @@ pub fn show_values(rt: &HostRuntime, command: &Command) {
     print(rt, "rr_types", Some(command.op.kind().word()));
     let applied = registry::apply_twice(&mut Registry::new(alloc), command);
     print(rt, "rr_registry", applied.ok());
-    print(
-        rt,
-        "rr_registry",
-        places::put(&mut Numbered::new(alloc)).ok(),
-    );
-    print(rt, "rr_state", list::waits(alloc, REQUEST).ok());
 }
 
 /// How many facts a new journal has once it has one: that an instance has decided on this command.
@@ -83,59 +66,17 @@ pub fn show_disks(rt: &HostRuntime, instance: Instance, command: &Command) {
         "rr_frame",
         frame::adoption(alloc, instance, *command).ok(),
     );
-    print(rt, "rr_journal", image::epoch_of(alloc, b"", b"").ok());
     print(rt, "rr_journal", count_appended(alloc, instance, command));
-    print(
-        rt,
-        "rr_folders",
-        cluster::count_nodes(b"cluster-1 12 34 3 012\n"),
-    );
-    print_text(
-        rt,
-        "rr_folders",
-        verify::verdict(alloc, &[Reading::Blank]).ok(),
-    );
-}
-
-/// How many requests a node waits for by a step.
-fn count_changes(alloc: Global, state: &State) -> Option<usize> {
-    let changes = step::wait_for(alloc, state, REQUEST).ok()?;
-    Some(changes.waiting.len())
-}
-
-/// How many requests a new node waits for by a step.
-fn count_waiting(alloc: Global) -> Option<usize> {
-    let (nodes, node) = only_node()?;
-    let state = behaviour::of_new_node(alloc, nodes, node).ok()?;
-    count_changes(alloc, &state)
-}
-
-/// How many facts a new node stages for a command.
-fn count_staged(alloc: Global, command: &Command) -> Option<usize> {
-    let (nodes, node) = only_node()?;
-    match recover(alloc, nodes, node, MemDisk::new(alloc)) {
-        Ok((core, _journal)) => locked::submit(&mut Locked::new(core), *command).ok(),
-        Err(_) => None,
-    }
 }
 
 /// Of the libraries of a node.
-pub fn show_nodes(rt: &HostRuntime, command: &Command) {
+pub fn show_nodes(rt: &HostRuntime) {
     let alloc = rt.alloc();
-    print(rt, "rr_core and rr_core", count_waiting(alloc));
-    print(rt, "rr_turn", count_staged(alloc, command));
     if let Some((nodes, node)) = only_node() {
-        let suspects = parts::suspected(&mut Heartbeat::new(nodes), node);
+        let suspects = state::suspected(&mut Heartbeat::new(nodes), node);
         print(rt, "rr_state", Some(suspects.contains(node)));
         let stance = node::start(alloc, &mut Node::new(nodes, node, MemDisk::new(alloc)));
         print(rt, "rr_node", stance.ok());
-        let message = Message {
-            from: node,
-            to: node,
-            body: Body::Beat,
-        };
-        let received = wire::as_received(alloc, nodes, &message);
-        print(rt, "rr_frame", Some(received.is_ok()));
     }
 }
 
@@ -143,11 +84,6 @@ pub fn show_nodes(rt: &HostRuntime, command: &Command) {
 pub fn show_texts(rt: &HostRuntime) {
     let alloc = rt.alloc();
     print(rt, "rr_text", text::count_events(alloc, OPENING).ok());
-    print(
-        rt,
-        "rr_text",
-        tape::count_events(alloc, b"nodes 1\ntick 0\n").ok(),
-    );
     let mut line = Vec::new(alloc);
     let pushed = json::push_name(&mut line);
     print_text(rt, "rr_json", pushed.ok().map(|_| line));
@@ -160,11 +96,6 @@ pub fn show_texts(rt: &HostRuntime) {
         "run.schedule:2:1: no event \"fly\"",
     );
     if let Ok(nodes) = Nodes::new(1) {
-        print(
-            rt,
-            "rr_text",
-            script::count_lines(alloc, nodes, b"look 0 printer\n").ok(),
-        );
         print(rt, "rr_shell", shell::is_look(nodes, b"look printer").ok());
     }
     print(
@@ -174,17 +105,10 @@ pub fn show_texts(rt: &HostRuntime) {
     );
 }
 
-/// How many crashes a sweep of the opening tries.
-fn count_crashes(alloc: Global) -> Option<usize> {
-    let schedule = Schedule::parse(alloc, OPENING).ok()?;
-    sweep::count_crashes(alloc, &schedule).ok()
-}
-
 /// Of the libraries of runs.
 pub fn show_runs(rt: &HostRuntime) {
     let alloc = rt.alloc();
     let progress = &mut Counted::new(Vec::new(alloc));
-    print(rt, "rr_sim", count_crashes(alloc));
     print_begin(
         rt,
         "rr_account",
@@ -196,18 +120,6 @@ pub fn show_runs(rt: &HostRuntime) {
         "rr_draw",
         draw::picture(alloc, OPENING, progress).ok(),
         "<svg",
-    );
-    print_begin(
-        rt,
-        "rr_cli",
-        page::page(alloc, OPENING, progress).ok(),
-        "<!doctype html>",
-    );
-    print_begin(
-        rt,
-        "rr_lively",
-        finish::added(alloc, b"nodes 1\n", progress).ok(),
-        "restart 0",
     );
     if let Ok(nodes) = Nodes::new(3) {
         print_begin(
@@ -251,14 +163,6 @@ pub fn show_program(rt: &HostRuntime) {
     let mut out = Counted::new(Vec::new(alloc));
     let copied = stream::copy(alloc, &mut Counted::new(&b"abc"[..]), &mut out);
     print_text(rt, "rr_stream", copied.ok().map(|_| out.into_inner()));
-    let files = &mut NamedText::new("one.tape", b"nodes 1\n");
-    print(
-        rt,
-        "rr_stream",
-        files::length_of(alloc, files, "one.tape").ok(),
-    );
-    let heard = talk::next_line(alloc, &mut Counted::new(&b"look printer\nquit\n"[..]));
-    print_text(rt, "rr_shell", heard.unwrap_or(None));
     if let Ok(nodes) = Nodes::new(3) {
         print(
             rt,

@@ -4,6 +4,9 @@
 //! `rr check`; and with those of a tape: `rr audit --explain`, `rr stats`. A text that is a schedule or a tape is told by itself
 //! (`recognising`).
 //!
+//! `page_of` makes the page of a run or of a tape: a file that a browser opens without a network, with its picture and with the lines
+//! that `rr sim --explain --json` prints. `web/` has the page's own parts.
+//!
 //! # Example
 //!
 //! This is in `crates/worked_rows/src/old_folders/folder.rt`:

@@ -9,8 +9,11 @@
 //!    a `Cleared`, which nothing else makes;
 //! 5. tells clients the replies (`next_ack`).
 //!
-//! `crates/one_node` is such a program, and docs/PROGRAMS.md shows its middle. What an input does is in `rr_behaviour`, from `input.rt` on:
-//! for a message in `hear.rt`, for Ask and Decision in `decisions.rt`.
+//! `crates/one_node` is such a program, and docs/PROGRAMS.md shows its middle.
+//!
+//! Inside, what an input does is in `input.rt`: for a message in `hear.rt`, for Ask and Decision in `decisions.rt`, and what is due
+//! behind it in `due.rt`. All of it works on a `Step`, which borrows the `State`. Look-ups see the node as the step has left it by
+//! then, and changes are collected beside it. `State::absorb` takes on all of these or none, and a refused step is dropped.
 //!
 //! This is how it flushes and sends:
 //!

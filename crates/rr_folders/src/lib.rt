@@ -1,7 +1,13 @@
-//! The folders of a cluster, as a program opens them: node P's is `DIR/P`, and `DIR/cluster` says which cluster they are.
-//! `open_folders` locks them, judges what it finds as `rr_cluster` says, and writes what is missing where a cluster begins.
-//! `survey_folders` and `enter` are its two halves. `Locks` holds their locks, and reserves request numbers in a locked folder.
-//! `lock_node` locks a single node's folder. `Shares` are the locks of those who only read, which keep off whoever runs nodes.
+//! The folders of a cluster: node P's is `DIR/P`, and `DIR/cluster` says which cluster they are. A node whose disk is lost, blank or
+//! not as far as it was has forgotten promises, and must not be taken for a fresh one.
+//! - Judging reads and writes no file. The file `cluster` says how many nodes there are and which of them have been formatted (`Cluster`).
+//!   The file `node` in a node's folder says whose it is, and how far its disk came. By these, `judge` says whether folders as they
+//!   were found may be opened.
+//! - `open_folders` locks them, judges what it finds, and writes what is missing where a cluster begins. `survey_folders` and `enter`
+//!   are its two halves. `Locks` holds their locks, and reserves request numbers in a locked folder. `lock_node` locks a single node's
+//!   folder. `Shares` are the locks of those who only read, which keep off whoever runs nodes.
+//! - `read_disk` reads what a folder holds, and `verify` says whether those of a cluster agree. `verdict_text` prints that, and
+//!   `export` the registry of what they decided. None of them writes.
 //!
 //! # Example
 //!

@@ -1,10 +1,10 @@
-//! The bytes on a disk: commands, facts, groups and snapshots, each with one spelling in a version.
+//! The bytes on a disk and between nodes: commands, facts, groups, snapshots and messages, each with one spelling in a version.
 //!
 //! Numbers are big-endian. Bytes of versions 1 and 2 are read, and version 2 is written. A decoder answers with a
 //! value exactly where the bytes are its spelling in the version, and otherwise with the offset of the first field
 //! that is cut short or holds no lawful value.
-//! `encode_fact`, `encode_group` and `encode_snapshot` write; `decode_fact`, `decode_group` and `decode_snapshot` read a whole
-//! value.
+//! `encode_fact`, `encode_group` and `encode_snapshot` write what lies on a disk; `decode_fact`, `decode_group` and
+//! `decode_snapshot` read a whole value. `encode` and `decode` do so with a message, and a `MessageLog` keeps the bytes of many.
 //!
 //! # Example
 //!

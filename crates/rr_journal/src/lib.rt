@@ -9,6 +9,9 @@
 //!
 //! After a failed device call, take the disk (`into_disk`) and open it again.
 //!
+//! What the two areas mean, and where they are damaged, is an `Image`: an opening reads it of both. `inspect` and `inspect_bytes` read
+//! each area as the node that its snapshot names, and write nothing.
+//!
 //! Bytes behind a closed gate mean nothing. So until the gate is written, what a crash may leave holds the facts from
 //! before the flush. From the last sync on it holds these and the group's; in between, one or the other. A snapshot
 //! has the promise of the same facts, so each crash in a switch leaves what was there before it.

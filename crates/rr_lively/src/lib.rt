@@ -1,6 +1,8 @@
-//! Lively schedules: random ones in which something happens. `lively_run` draws one and gives it with its report,
-//! `lively_schedule` gives it alone. An event is drawn among those that do something at that moment, or with a fault. It is
-//! made before the next is drawn.
+//! Schedules that are drawn on, event by event, where an event does something at that moment.
+//! - `lively_run` draws a schedule in which something happens and gives it with its report, `lively_schedule` gives it alone. An event is
+//!   drawn among those that do something at that moment, or with a fault. It is made before the next is drawn.
+//! - `finish_run` lets a schedule go on, without faults and without clients, until nothing is left to do. It gives the lines of the
+//!   events that it added, with the report of both.
 //!
 //! # Example
 //!

@@ -2,6 +2,9 @@
 //! of the list. Each request is applied once: a repeat changes nothing, and `reply` gives the kept reply. `entry` and `entries`
 //! look names up.
 //!
+//! Below it are maps in which a key may have a place before it has a value (`Numbered`). `make_place` comes first and may need
+//! memory. `put` then writes the value and needs none. `insert` does both, and `drop_free_place` takes a place without a value away.
+//!
 //! # Example
 //!
 //! This is in `crates/first_pages/src/registry.rt`:

@@ -1,4 +1,6 @@
-//! The lines of a shell: what they ask for, and what is said to them, in words or with JSON. `rr_talk` has the talk of both.
+//! The talk of a shell. Its lines are what they ask for (`read_shell_line`), and what is said to them, in words or with JSON.
+//! `talk` hears a line, asks nodes that run what the line asks (`Asked`), and says the answer. It has no threads but for a watch, which
+//! says changes while the next line is heard.
 //!
 //! # Example
 //!

@@ -1,6 +1,10 @@
 //! The simulator: a schedule of what happens to a cluster goes in, the report of its run comes out. `simulate` runs a schedule
 //! that is a value, `report_on` one while its text is read; `random` draws one. A `Cluster` takes one event at a time.
 //!
+//! `sweep` crashes a copy of the node's disk after each device call of a run, in five ways, and opens it alone: all else of the node is
+//! lost in the crash, and no other node hears of it. `Sweeping::new` and `step` do it event by event, and `push_sweep_lines`
+//! prints the lines.
+//!
 //! So a program looks at the disk of a node behind a run:
 //!
 //! ```rust

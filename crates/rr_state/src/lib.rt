@@ -1,4 +1,4 @@
-//! The parts of a node's state that a step works on, but for its list of instances (`rr_list`).
+//! What a node knows: the parts of its state, on which a step works.
 //! - Failure detectors. The heartbeat detector has time-outs that grow (Aguilera, Chen and Toueg 2000): a node is suspected once
 //!   more ticks than its time-out have come since its last beat, and a beat of a suspected node raises its time-out by one. The
 //!   reduction makes a detector complete (Chandra and Toueg 1996). When a node tells whom it suspects, these are suspected too,
@@ -7,13 +7,17 @@
 //! - An instance over its rounds. A `Row` says where it stands and which facts back its messages. `first` or `promised` makes it,
 //!   `after` takes a fact on, and `with_estimate`, `with_ack`, `with_nack` an answer. Its `Tally` is what the coordinator heard:
 //!   `pick`, `is_acknowledged` and `is_answered` say whether a majority has spoken.
+//! - The tables of all instances and requests. `Instances` has the rows and the promise of the marked facts: `absorb` puts rows, then
+//!   `mark` marks facts. `Pool` has the commands that wait for an instance, `Waiting` the requests that wait for their
+//!   acknowledgement. Of both, `push` adds, `take_back` undoes a push, and `remove` takes one out. No call costs more for what it
+//!   leaves alone.
 //! - What a node owes and has promised. `Unmarked` has the facts: `push_all` stages them, `run` makes a group of the oldest,
 //!   `put_back` or `drop_running` ends it. `Outbox` has the messages: `owe_all` adds, `leaving_place` finds the oldest that is
 //!   free or whose fact is marked, `at` lends it, and `remove` takes it away.
 //!
 //! # Example
 //!
-//! This is in `crates/first_pages/src/parts.rt`:
+//! This is in `crates/first_pages/src/state.rt`:
 //!
 //! ```rust
 //! use rr_state::Heartbeat;

@@ -1,5 +1,8 @@
-//! The streams of a program, whose failed calls are counted. `Counted` makes one of a stream of the standard library.
+//! The streams and files of a program. `Counted` makes a stream of one of the standard library, and counts its failed calls.
 //! `print_all` prints a text and flushes it, `read_all` reads what an input has left, `tell_step` says how far a long work is.
+//!
+//! A `FileReader` reads a file whole, by its path; a contract over any of them can say of which file some bytes are. `HostFiles`
+//! reads those of the host, of which nothing is known, and `NamedText` is one text as a file.
 //!
 //! # Example
 //!

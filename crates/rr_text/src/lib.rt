@@ -1,5 +1,10 @@
-//! The texts of schedules and reports. `Schedule::parse` reads a whole schedule. `first_line`, and then `next_event` again and
-//! again, read it line by line. `Schedule::text` and `Report::text` print.
+//! The texts that are lists of lines: schedules and their reports, tapes, scripts and their answers.
+//! - `Schedule::parse` reads a whole schedule. `first_line`, and then `next_event` again and again, read it line by line.
+//!   `Schedule::text` and `Report::text` print.
+//! - A tape says what a cluster did whose nodes keep everything, event by event. `Tape::parse` reads a whole one, `next_tape_event` a line
+//!   behind `first_line`, and `Tape::text` prints one.
+//! - A script says what clients ask of nodes in threads. `Script::parse` reads it, and `lines` gives what is asked. `Answers::new` and
+//!   `text` print what was answered.
 //!
 //! # Example
 //!

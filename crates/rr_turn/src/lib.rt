@@ -1,6 +1,9 @@
-//! What the threads of a node do in a turn, over what they call: its loop's `turn`, its flusher's `flush_group`, its publisher's
-//! `publish_next`; while it is down its thread's `stay_down`. And what a client does that waits for a reply, `await_receipt`. `rr_threads` has
-//! the loops, and what these calls are there.
+//! What a node's threads share, and what each does in a turn; `rr_threads` has the loops.
+//! - `recover_through` opens a node's disk. `Locked` is a core under its lock: clients and the node's loop call `step`, and the loop
+//!   `mark`, `take_group` and `next_message`. `carry` flushes a group, and a `Follower` shows what is decided. The calls named `.._on`
+//!   also note their event on the tape (`Recording`).
+//! - A turn is a function over what it calls: a node's loop has `turn`, its flusher `flush_group`, its publisher `publish_next`. While a
+//!   node is down its thread has `stay_down`. A client that waits for a reply calls `await_receipt`.
 //!
 //! # Example
 //!

@@ -1,12 +1,16 @@
-//! A window on one list of commands that only grows: one publisher adds to it, and readers look at the registry
-//! of what is published, without waiting for anybody.
+//! What threads hand to one another: a window on a list, inboxes, and hand-overs.
 //!
-//! `open` makes a window and `split` its ends. The publisher calls `append` and then `publish`, and hands out receipts. A reader
-//! takes a seat (`Seats::take`), and calls `look` and `list`, and `learn` of receipts. By a `Watch` it learns of each change.
-//!
+//! **A window** is on one list of commands that only grows: one publisher adds to it, and readers look at the registry
+//! of what is published, without waiting for anybody. `open` makes a window and `split` its ends. The publisher calls `append` and
+//! then `publish`, and hands out receipts. A reader takes a seat (`Seats::take`), and calls `look` and `list`, and `learn` of
+//! receipts. By a `Watch` it learns of each change. At the end the publisher is closed (`close`).
 //! Contracts see a window's list as its commands. Nothing stores them: readers are served the registry of a beginning
 //! of the list, and that beginning's length.
-//! At the end the publisher is closed (`close`).
+//!
+//! **An inbox** is a queue into which many put messages and from which one takes them, first in first out. `Outlet::new` makes
+//! one, and `Outlet::port` an end that puts into it. `hand_over` makes both ends of a hand-over of one value at a time from one
+//! thread to another. Each end carries what it knows of all that was ever put there (`View`). That exists in proofs alone and
+//! takes no bytes.
 //!
 //! # Example
 //!
