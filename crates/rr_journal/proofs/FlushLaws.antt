@@ -17,7 +17,7 @@ use Rattle.rr_frame.proofs.FieldLaws.{length-number_bytes}
 use Rattle.rr_frame.proofs.GroupLaws.{group_spelt}
 use Rattle.rr_journal.specs.Flushes.{Flush}
 use Rattle.rr_journal.specs.Moments.{image_of, with_image, body_written, gate_opened, with_group, IsGrounded}
-use Rattle.rr_journal.proofs.Content.{body_front, body_back, front_less}
+use Rattle.rr_journal.proofs.FlushStates.{body_front, body_back, front_less}
 use Rattle.rr_journal.specs.declared.journal.Journal.{Journal}
 use Rattle.rr_journal.specs.Calls.{frame_bytes}
 use Rattle.rr_journal.specs.Image as grammar

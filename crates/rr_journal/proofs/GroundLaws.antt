@@ -15,7 +15,7 @@ use Rattle.rr_frame.specs.Snapshots.{Snapped}
 use Rattle.rr_frame.specs.SnapshotFormat.{snapshot_bytes, IsLawfulSnapshot}
 use Rattle.rr_journal.specs.Flushes.{Flush}
 use Rattle.rr_journal.specs.Moments.{image_of, with_image, EachHolds, IsGrounded}
-use Rattle.rr_journal.proofs.Content.{one_area}
+use Rattle.rr_journal.proofs.FlushStates.{one_area}
 use Rattle.rr_journal.specs.Calls.{frame_bytes, must_close}
 use Rattle.rr_journal.specs.Image.{Content, Found, Active, Blank, Begins, front_of, content_behind, found}
 use Rattle.rr_journal.specs.Held.{StandsFor, Holds}

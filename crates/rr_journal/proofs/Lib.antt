@@ -1,5 +1,5 @@
 pub mod BesideLaws
-pub mod Content
+pub mod FlushStates
 pub mod CourseLaws
 pub mod CrashLaws
 pub mod FlushLaws

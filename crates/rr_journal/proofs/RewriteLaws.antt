@@ -27,7 +27,7 @@ use Rattle.rr_journal.specs.declared.stage.Stage.{Stage}
 use Rattle.rr_journal.specs.declared.stage.Stage.TheVariants.{Closing, SettlingClosed, WritingBody, SettlingBody, OpeningGate, SettlingGate}
 use Rattle.rr_journal.specs.Stages.{call_at, stage_behind}
 use Rattle.rr_journal.proofs.BesideLaws.{blank_beside, newer_beside}
-use Rattle.rr_journal.proofs.Content.{extent_restarted, image_of_with, one_area, synced_written}
+use Rattle.rr_journal.proofs.FlushStates.{extent_restarted, image_of_with, one_area, synced_written}
 use Rattle.rr_journal.proofs.FlushLaws.{opened, length-frame}
 use Rattle.rr_journal.proofs.FormatLaws.{closed_blank, short_blank, open_at_front, blanks, both_blank}
 use Rattle.rr_journal.proofs.GroundLaws.{content_of, snapped}

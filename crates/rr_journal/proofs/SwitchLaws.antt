@@ -12,7 +12,7 @@ use Rattle.rr_frame.specs.declared.version.Version.TheVariants.{Two}
 use Rattle.rr_frame.specs.SnapshotFormat.{snapshot_bytes, IsLawfulSnapshot}
 use Rattle.rr_journal.specs.Flushes.{Flush}
 use Rattle.rr_journal.specs.Moments.{image_of, with_image, with_group, EachHolds, gate_opened, body_written}
-use Rattle.rr_journal.proofs.Content.{extent_restarted, image_of_with, synced_written}
+use Rattle.rr_journal.proofs.FlushStates.{extent_restarted, image_of_with, synced_written}
 use Rattle.rr_journal.proofs.Table.{due_holds, out_holds, safe_holds, set_holds, to_out, to_safe, to_set, to_group, body_refused, gate_refused}
 use Rattle.rr_journal.specs.declared.journal.Journal.{Journal}
 use Rattle.rr_journal.specs.Calls.{Write, after_call, frame_bytes, must_close}

@@ -9,7 +9,7 @@ use Rattle.rr_disk.proofs.Agreeing.{agrees_bytes, at_rest_image, torn_front, tor
 use Rattle.rr_disk.proofs.Torn.{torn_written}
 use Rattle.rr_journal.specs.Flushes.{Flush}
 use Rattle.rr_journal.specs.Moments.{image_of, with_image, body_written, gate_opened, body_due, body_out, with_body, body_safe, gate_set, with_group, group_safe, IsGrounded, IsAt, EachHolds, EachHoldsEither}
-use Rattle.rr_journal.proofs.Content.{extent_restarted, restarted_as, image_of_with, with_with, one_area, synced_written, body_front, body_back, body_there, front_less, gate_front}
+use Rattle.rr_journal.proofs.FlushStates.{extent_restarted, restarted_as, image_of_with, with_with, one_area, synced_written, body_front, body_back, body_there, front_less, gate_front}
 
 module _ (holds : Images → List Fact → Type 0) (flush : Flush) (start : Images) (facts : List Fact) (grounded : IsGrounded holds flush start facts) where
   -- an image whose front and gate are as they were at the start

@@ -8,7 +8,7 @@ use Rattle.rr_disk.specs.Areas.{Extent, Areas, extent_of, firm_cell, synced}
 use Rattle.rr_disk.specs.Crash.{Images, restarted}
 use Rattle.rr_journal.specs.Flushes as gate
 use Rattle.rr_journal.specs.Moments.{image_of, body_written, with_body, IsGrounded, IsAt, EachHolds, EachHoldsEither}
-use Rattle.rr_journal.proofs.Content.{extent_restarted, image_of_with, body_there}
+use Rattle.rr_journal.proofs.FlushStates.{extent_restarted, image_of_with, body_there}
 use Rattle.rr_journal.proofs.Table.{out_holds, set_holds, body_refused, gate_refused, same_holds, same_either, to_out, to_safe, to_set}
 use Rattle.rr_journal.specs.Calls.{Call, Write, Sync, after_call}
 use Rattle.rr_journal.specs.OpeningTable.{IsLeftBy}

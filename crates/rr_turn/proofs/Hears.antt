@@ -11,7 +11,7 @@ use Rattle.rr_turn.specs.Turns.{takes_each, met, met_chase, hearing, meeting, al
 use Rattle.rr_turn.specs.Looks.{Hears, MeetsAny}
 use Rattle.rr_turn.proofs.Runs.{run_more, run_join}
 use Rattle.rr_turn.proofs.Sends.{length_more}
-use Rattle.rr_turn.proofs.Ticks.{ok_both}
+use Rattle.rr_turn.proofs.TickLaws.{ok_both}
 
 met_more : (s : NodeState) (c : Chase) (sents : List Sent) (sent : Sent) → all_met (sents ++ sent ∷ []) s c ≡ met sent (all_met sents s c) (all_met_chase sents s c)
 met_more s c [] sent = refl

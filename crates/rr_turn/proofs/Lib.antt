@@ -2,7 +2,7 @@ pub mod Runs
 pub mod Sends
 pub mod Hears
 pub mod Marks
-pub mod Ticks
+pub mod TickLaws
 pub mod Asks
 pub mod Publishes
 pub mod Rows

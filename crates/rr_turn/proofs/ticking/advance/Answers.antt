@@ -1,7 +1,7 @@
 use Rattle.std.proofs.Common.{Err, subst}
 use Rattle.rr_types.specs.declared.input.Input.TheVariants.{Advance}
 use Rattle.rr_turn.specs.Asked.{tells}
-use Rattle.rr_turn.proofs.Ticks.{advanced_out, advanced_in}
+use Rattle.rr_turn.proofs.TickLaws.{advanced_out, advanced_in}
 use Rattle.rr_turn.proofs.ticking.advance.Goals as goal
 
 pub returns-in-Ok : goal.returns-in-Ok

@@ -4,7 +4,7 @@ use Rattle.rr_types.specs.declared.input.Input.TheVariants.{Tick}
 use Rattle.rr_model.specs.NodeState.{NodeState, decided_prefix}
 use Rattle.rr_model.specs.NodeStep.{node_step}
 use Rattle.rr_turn.specs.Ticks.{is_advance_due, standstill_after}
-use Rattle.rr_turn.proofs.Ticks.{beaten, beaten_on, ok_too}
+use Rattle.rr_turn.proofs.TickLaws.{beaten, beaten_on, ok_too}
 use Rattle.rr_turn.proofs.ticking.beat.Goals as goal
 
 pub returns-then-count-clause-calls : goal.returns-then-count-clause-calls

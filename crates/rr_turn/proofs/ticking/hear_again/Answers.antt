@@ -1,6 +1,6 @@
 use Rattle.std.proofs.Common.{◌∙◌, ap, length}
 use Rattle.rr_model.specs.NodeState.{NodeState, decided_prefix}
-use Rattle.rr_turn.proofs.Ticks.{again_ran}
+use Rattle.rr_turn.proofs.TickLaws.{again_ran}
 use Rattle.rr_turn.proofs.ticking.hear_again.Goals as goal
 
 pub returns-clause-calls : goal.returns-clause-calls

@@ -1,5 +1,5 @@
 use Rattle.std.proofs.Common.{◌∙◌, sym}
-use Rattle.rr_turn.proofs.Ticks.{ticks_by, ticked_not, ticked_on, standstill_same, standstill_counted, ok_both}
+use Rattle.rr_turn.proofs.TickLaws.{ticks_by, ticked_not, ticked_on, standstill_same, standstill_counted, ok_both}
 use Rattle.rr_turn.proofs.ticking.tick.Goals as goal
 
 pub returns-then-branch : goal.returns-then-branch

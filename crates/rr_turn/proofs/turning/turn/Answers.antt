@@ -2,7 +2,7 @@ use Rattle.std.proofs.Common.{refl, ap}
 use Rattle.std.specs.Duration.{as_nanos}
 use Rattle.std.proofs.lemmas.Result.{on_ok_weaker}
 use Rattle.rr_turn.specs.Ticks.{is_tick_due}
-use Rattle.rr_turn.proofs.Ticks.{ticks_if}
+use Rattle.rr_turn.proofs.TickLaws.{ticks_if}
 use Rattle.rr_turn.proofs.turning.turn.Goals as goal
 
 pub returns : goal.returns
