@@ -13,8 +13,8 @@ ghost use Rattle.rr_core.specs.Searched.{IsSearched};
 use crate::cleared::{Cleared, Draft};
 use crate::mark::Mark;
 use crate::state::State;
-use rr_state::{Owed, Waiting};
 use rr_registry::Registry;
+use rr_state::{Owed, Waiting};
 use rr_types::{Reply, RequestNo};
 
 /// How many commands of the decided prefix were searched for waiting requests and have none. It is stale once a
