@@ -1,7 +1,7 @@
 use Rattle.std.proofs.Common.{◌∙◌, inl}
 use Rattle.std.proofs.lemmas.Result.{IfOk-weaker}
 use Rattle.rr_folders.proofs.ReadingLemmas.{read_of_disk}
-use Rattle.rr_folders.proofs.folder.read_disk.Goals as goal
+use Rattle.rr_folders.proofs.verify_folder.read_disk.Goals as goal
 
 pub returns-clause-told : goal.returns-clause-told
 returns-clause-told g c = λ tells fits_1 fits_2.
