@@ -6,3 +6,7 @@ pub mod Stages
 pub mod Mailing
 pub mod Hearings
 pub mod Places
+pub mod WayLemmas
+pub mod Taking
+pub mod Errand
+pub mod Belting

@@ -1,5 +1,5 @@
 -- What a client is answered.
-use Rattle.std.specs.Prelude.{◌≡◌, ℕ, List, None, Some}
+use Rattle.std.specs.Prelude.{◌≡◌, ℕ, List, Option, None, Some}
 use Rattle.rr_types.specs.declared.command.Command.{Command}
 use Rattle.rr_types.specs.declared.command.RequestNo.{RequestNo}
 use Rattle.rr_types.specs.Registry.{registry_of, holding_of, reply_of}
@@ -8,11 +8,13 @@ use Rattle.rr_text.specs.declared.answer.Answer.TheVariants.{Acknowledged, Unack
 use Rattle.rr_text.specs.declared.script_line.ScriptLine.{ScriptLine}
 use Rattle.rr_text.specs.declared.script_line.ScriptLine.TheVariants.{Submit, Look}
 
--- a client: the node that it asks, the longest list that it has seen or learned, and how often it has rested while it waited for replies
+-- a client: the node that it asks, the longest list that it has seen or learned, how often it has rested while it waited for replies, and
+-- the command that it has put on its counter last, to be submitted
 pub record Asking : Type 0 where
   pub node : ℕ
   pub known : List Command
   pub rests : ℕ
+  pub wanted : Option Command
 
 -- an answer to a request: a reply is that of the list that the client then knows
 abbrev pub IsAnswered : RequestNo → Asking → Answer → Type 0
@@ -33,3 +35,8 @@ IsSeen name before a _ = ⊥
 abbrev pub IsAnswerTo : ScriptLine → Asking → Asking → Answer → Type 0
 IsAnswerTo (Submit p c) before a answer = IsAnswered c.request a answer
 IsAnswerTo (Look p name) before a answer = IsSeen name before a answer
+
+-- the command that lies on its counter once a line is asked: that of a submit; a look puts none there
+abbrev pub wanted_after : ScriptLine → Asking → Option Command
+wanted_after (Submit p c) a = Some c
+wanted_after (Look p name) a = a.wanted

@@ -1,6 +1,9 @@
 pub mod Agreeing
 pub mod Asking
+pub mod Belts
+pub mod Errands
 pub mod Fates
+pub mod Joins
 pub mod Lacking
 pub mod Rests
 pub mod Reusing

@@ -1,10 +1,22 @@
--- What a node puts into an inbox, and what of that is late; what it takes out of its own, and keeps.
-use Rattle.std.specs.Prelude.{◌≡◌, ◌⊎◌, ◌<◌, ℕ, List, length, slice_get, slice_index_or, slice_set, Option, None, Some}
-use Rattle.rr_window.specs.InOrder.{Puts, Takes, HasHeld}
+-- To which inboxes the ways of nodes lead; what a node puts into one, and what of that is late; what it takes out of its own, and keeps.
+use Rattle.std.specs.Prelude.{◌≡◌, ◌⊎◌, ◌<◌, ℕ, List, All, length, map, slice_get, slice_index_or, slice_set, Option, None, Some}
+use Rattle.rr_window.specs.InOrder.{Inbox, End, Puts, Takes, HasHeld}
 use Rattle.rr_turn.specs.Recorded.{Sent}
 use Rattle.rr_turn.specs.Chases.{kept_with, sent_of}
 use Rattle.rr_threads.specs.declared.wires.Way.{Way}
 use Rattle.rr_threads.specs.declared.wires.Mail.{Mail}
+
+-- inboxes, each by the name of its queue
+abbrev pub named : List (End Inbox Sent) → List Inbox
+named inboxes = map (λ o. o.queue) inboxes
+
+-- the inboxes to which ways lead
+abbrev pub led_to : List Way → List Inbox
+led_to ways = map (λ w. w.port.queue) ways
+
+-- each of these nodes has a way to the inbox of each, in the order of the nodes
+abbrev pub AreWired : List Mail → Type 0
+AreWired mails = All (λ m. led_to m.ways.items ≡ named (map (λ m. m.inbox) mails)) mails
 
 -- the same inbox, and nothing is late
 abbrev pub none_late : Way → Way
@@ -33,6 +45,10 @@ abbrev pub IsTaken : Mail → Option Sent → Mail → Type 0
 IsTaken a None b = (b ≡ a) × HasHeld 0 a.inbox.view
 IsTaken a (Some sent) b =
     (b.inbox.queue ≡ a.inbox.queue) × Takes a.inbox.view sent b.inbox.view × (b.ways ≡ a.ways) × (b.kept ≡ kept_with sent.message.body sent a.kept)
+
+-- it is the mail of the same inbox, with the ways as they were
+abbrev pub HasSameEnds : Mail → Mail → Type 0
+HasSameEnds a b = (b.inbox.queue ≡ a.inbox.queue) × (b.ways ≡ a.ways)
 
 -- a message is put by one of these ways, where there is one, which is then so; the others stay
 abbrev pub PutsBy : Option Way → ℕ → Sent → List Way → List Way → Type 0

@@ -1,9 +1,8 @@
 //! Whether nodes agree, before any of them serves.
 
-ghost use Rattle.std.specs.Prelude.{◌≡◌, ◌≤◌, true, List, length, All, IsSome};
-ghost use Rattle.rr_types.specs.declared.command.Command.{Command};
+ghost use Rattle.std.specs.Prelude.{◌≡◌, ◌≤◌, true, length, All, IfSome};
 ghost use Rattle.rr_model.specs.NodeState.{decided_prefix};
-ghost use Rattle.rr_threads.specs.Agreeing.{do_agree};
+ghost use Rattle.rr_threads.specs.Agreeing.{do_agree, AgreeWithOne};
 
 use crate::node_run::Part;
 use rr_core::Core;
@@ -64,22 +63,47 @@ fn agree_with<D: Disk, C>(parts: &[(Part<D>, Vec<C>)], whole: &Core) -> bool
     true
 }
 
-/// That nodes agree. Only `all_agree` gives this.
-#[derive(Clone, Copy, Debug)]
-pub struct Agreed {
-    all: (),
-}
-
-/// That no instance is decided differently in the decided lists of these nodes, if it is so. Each is compared with the longest: those that
-/// are beginnings of it don't differ from one another.
-pub fn all_agree<D: Disk, C>(parts: &[(Part<D>, Vec<C>)]) -> Option<Agreed>
-    ensures { IsSome result → (whole : List Command) × All (λ p. length (decided_prefix p.0.core) ≤ length whole) parts.now × All (λ p. do_agree (decided_prefix p.0.core) whole ≡ true) parts.now }
+// Whether no instance is decided differently in the decided lists of these nodes. Each is compared with the longest: those that are
+// beginnings of it don't differ from one another.
+fn do_all_agree<D: Disk, C>(parts: &[(Part<D>, Vec<C>)]) -> bool
+    ensures { result ≡ true → AgreeWithOne (λ p. decided_prefix p.0.core) parts.now }
 {
     let [first, ..] = parts else {
-        return Some(Agreed { all: () });
+        return true;
     };
-    if agree_with(parts, longest(&first.0.core, parts)) {
-        Some(Agreed { all: () })
+    agree_with(parts, longest(&first.0.core, parts))
+}
+
+/// Nodes that agree, each with its clients. Only `all_agree` gives this.
+#[derive(Drop)]
+pub struct Agreed<D: Disk, C> {
+    parts: Vec<(Part<D>, Vec<C>)>,
+}
+
+impl<D: Disk, C> Agreed<D, C> {
+    /// The nodes, to be read.
+    pub fn parts(&self) -> &[(Part<D>, Vec<C>)]
+        ensures { result.now ≡ self.now.parts.items }
+    {
+        &self.parts
+    }
+
+    /// The nodes.
+    pub fn into_parts(self) -> Vec<(Part<D>, Vec<C>)>
+        ensures { result ≡ self.parts }
+    {
+        let Agreed { parts } = self;
+        parts
+    }
+}
+
+/// These nodes, if no instance is decided differently in their decided lists.
+pub fn all_agree<D: Disk + Drop, C: Drop>(parts: Vec<(Part<D>, Vec<C>)>) -> Option<Agreed<D, C>>
+    ensures own { IfSome result (λ agreed. agreed.parts ≡ parts) }
+    ensures agree { IfSome result (λ agreed. AgreeWithOne (λ p. decided_prefix p.0.core) agreed.parts.items) }
+{
+    if do_all_agree(&parts) {
+        Some(Agreed { parts })
     } else {
         None
     }

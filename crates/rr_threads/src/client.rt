@@ -3,7 +3,7 @@
 //! No contract knows what lies on a counter, under the node's lock or in an atomic. So when a node goes down, which snapshot is asked for,
 //! and whose promise and which reused numbers are told has no clause: `is_over`, `snapshot`, `promise`, `reused` and `serve` are read.
 
-ghost use Rattle.std.specs.Prelude.{◌≡◌, ◌⊎◌, ◌+◌, ◌<◌, ◌≤◌, None, length, IfSome, IfOk, OnOk, OnErr, IfErr};
+ghost use Rattle.std.specs.Prelude.{◌≡◌, ◌⊎◌, ◌+◌, ◌<◌, ◌≤◌, None, Some, length, IfSome, IfOk, OnOk, OnErr, IfErr};
 ghost use mathlib.Core.List.{IsPrefix};
 ghost use Rattle.rr_types.specs.declared.refusal.Refusal.TheVariants.{NoGuard, OutOfMemory};
 ghost use Rattle.rr_types.specs.Registry.{registry_of};
@@ -11,12 +11,13 @@ ghost use Rattle.rr_model.specs.NodeState.{NodeState, decided_prefix};
 ghost use Rattle.rr_turn.specs.Asked.{Call};
 ghost use Rattle.rr_window.specs.Sights.{bindings_with};
 ghost use Rattle.rr_window.specs.Watches.{IsWatched};
-ghost use Rattle.rr_threads.specs.Asking.{IsAnswered, IsSeen, IsAnswerTo};
+ghost use Rattle.rr_threads.specs.Asking.{IsAnswered, IsSeen, IsAnswerTo, wanted_after};
+ghost use Rattle.rr_threads.specs.Errands.{errand_gives};
 ghost use Rattle.rr_threads.specs.Fates.{fate_of};
 ghost use Rattle.rr_threads.specs.Summaries.{IsSummary};
 ghost use Rattle.rr_threads.specs.Syncing.{to_itself};
 
-use crate::desk::{Counter, Desk, Written};
+use crate::desk::{Counter, Desk, Roused, Wanted, Written};
 use crate::fate::{Fate, fate_in};
 use crate::rest::{FIRST, LONG, Rest};
 use crate::reused::{Reused, reused_at};
@@ -46,8 +47,8 @@ pub trait Client {
     ) -> Result<(), Refusal>;
 }
 
-/// What a client asks its node with. Contracts see the node, the longest list that the client's seat has seen or learned, and how often the
-/// client has rested while it waited for replies.
+/// What a client asks its node with. Contracts see the node, the longest list that the client's seat has seen or learned, how often the
+/// client has rested while it waited for replies, and which command it has put on its counter last, to be submitted.
 #[derive(Drop)]
 pub struct Handle<'d, 'x, W: WindowName, T, R> {
     rt: &'d R,
@@ -57,31 +58,35 @@ pub struct Handle<'d, 'x, W: WindowName, T, R> {
     node: NodeId,
     seat: Seat<W>,
     rests: u64,
+    wanted: Option<Wanted>,
 }
 
 impl<'d, 'x, W: WindowName, T, R> Model for Handle<'d, 'x, W, T, R> {
+    ghost use Rattle.std.specs.Option.{option_map};
     ghost use Rattle.rr_threads.specs.Asking.{Asking};
 
     ghost Value = { Asking };
 
-    ghost view = { λ h. record { node = h.node; known = h.seat; rests = h.rests } };
+    ghost view = { λ h. record { node = h.node; known = h.seat; rests = h.rests; wanted = option_map (λ w. w.command) h.wanted } };
 }
 
-/// What a client has at its node while it waits for a reply. No contract knows what these hold: each call is a line, to be read.
+/// What a client has at its node while it waits for a reply, and what it has put on its counter. What the others hold no contract knows: each
+/// of those calls is a line, to be read.
 #[derive(Drop)]
 struct Errand<'d, 'x, W: WindowName, T, R> {
     rt: &'d R,
     shared: &'d Shared<'x, T>,
     desk: &'d Desk<W>,
     counter: &'d Counter<W>,
+    wanted: Option<Wanted>,
     rest: Rest,
 }
 
 impl<'d, 'x, W: WindowName, T: Turnstile, R: Wait> ClientEnds<W> for Errand<'d, 'x, W, T, R> {
-    ghost gives = { λ _ _ _. Unit {0} };
+    ghost gives = { λ old call new. errand_gives old.wanted call new.wanted };
 
     fn want(&mut self, command: &Command) {
-        self.counter.want(self.rt, command);
+        self.wanted = Some(self.counter.want(self.rt, command));
     }
 
     fn note_wanted(&mut self) {
@@ -122,8 +127,16 @@ fn receipt_of<W: WindowName>(receipt: Option<Receipt<W>>, request: RequestNo) ->
     }
 }
 
-// The receipt of a request, once the node has it decided and published; none where it is refused, the node goes down before, or the client
-// gives up, after so many looks. And how often the client has rested.
+// What a client has got for a command, how often it has rested, and what it has put on its counter.
+#[derive(Drop)]
+struct Served<W: WindowName> {
+    receipt: Option<Receipt<W>>,
+    rests: u32,
+    wanted: Option<Wanted>,
+}
+
+// The receipt of a command, which is put on the client's counter, once the node has it decided and published; none where it is refused, the
+// node goes down before, or the client gives up, after so many looks.
 fn receipt_for<W: WindowName, T: Turnstile, R: Wait>(
     rt: &R,
     shared: &Shared<'_, T>,
@@ -131,8 +144,9 @@ fn receipt_for<W: WindowName, T: Turnstile, R: Wait>(
     counter: &Counter<W>,
     looks: u32,
     command: &Command,
-) -> Awaited<W>
+) -> Served<W>
     ensures receipt { IfSome result.receipt (λ receipt. receipt.request ≡ command.now.request) }
+    ensures wanted { result.wanted ≡ Some (record { command = command.now }) }
     ensures few { result.rests ≤ looks }
 {
     let mut errand = Errand {
@@ -140,12 +154,14 @@ fn receipt_for<W: WindowName, T: Turnstile, R: Wait>(
         shared,
         desk,
         counter,
+        wanted: None,
         rest: Rest::rung(),
     };
     let Awaited { receipt, rests } = await_receipt(&mut errand, desk.node, looks, command);
-    Awaited {
+    Served {
         receipt: receipt_of(receipt, command.request),
         rests,
+        wanted: errand.wanted,
     }
 }
 
@@ -188,7 +204,13 @@ impl<'d, 'x, W: WindowName, T: Turnstile, R: Wait> Handle<'d, 'x, W, T, R> {
     /// does. None: it isn't written yet. A snapshot that is refused ends the run.
     pub fn snapshot(&self, looks: u32) -> Option<Written> {
         let asked = self.desk.snapshots.ask(self.rt)?;
-        let roused = self.desk.rouse(asked);
+        self.written_within(looks, self.desk.rouse(asked))
+    }
+
+    // Waits until the snapshot is written for which the flusher was rung, for so many looks.
+    fn written_within(&self, looks: u32, roused: Roused) -> Option<Written>
+        ensures { IfSome result (λ written. written.number ≡ roused.asked.number) }
+    {
         let mut rest = Rest::new(FIRST, LONG);
         for _ in 0..looks {
             if let Some(written) = self.desk.snapshots.written(self.rt, roused) {
@@ -206,6 +228,7 @@ impl<'d, 'x, W: WindowName, T: Turnstile, R: Wait> Handle<'d, 'x, W, T, R> {
     /// may lack the submit.
     pub fn submit(&mut self, command: &Command) -> Answer
         ensures answer { IsAnswered command.now.request self.new result }
+        ensures asked { self.new.wanted ≡ Some command.now }
         ensures later { IsPrefix self.old.known self.new.known }
         ensures same { self.new.node ≡ self.old.node }
         ensures rests { self.new.rests ≤ self.old.rests + 10_000_000 }
@@ -218,13 +241,18 @@ impl<'d, 'x, W: WindowName, T: Turnstile, R: Wait> Handle<'d, 'x, W, T, R> {
     #[tactic(auto, using(crate::proofs::Replies::later_reply))]
     pub fn submit_within(&mut self, looks: u32, command: &Command) -> Answer
         ensures answer { IsAnswered command.now.request self.new result }
+        ensures asked { self.new.wanted ≡ Some command.now }
         ensures later { IsPrefix self.old.known self.new.known }
         ensures same { self.new.node ≡ self.old.node }
         ensures rests { self.new.rests ≤ self.old.rests + looks }
     {
         let node = self.node;
         let request = command.request;
-        let Awaited { receipt, rests } = receipt_for(
+        let Served {
+            receipt,
+            rests,
+            wanted,
+        } = receipt_for(
             self.rt,
             self.shared,
             self.desk,
@@ -233,6 +261,7 @@ impl<'d, 'x, W: WindowName, T: Turnstile, R: Wait> Handle<'d, 'x, W, T, R> {
             command,
         );
         self.rests = self.rests.saturating_add(u64::from(rests));
+        self.wanted = wanted;
         match receipt {
             None => Answer::Unacknowledged { node, request },
             Some(receipt) => {
@@ -251,6 +280,7 @@ impl<'d, 'x, W: WindowName, T: Turnstile, R: Wait> Handle<'d, 'x, W, T, R> {
     /// is submitted, it counts once.
     pub fn submit_again(&mut self, looks: u32, command: &Command) -> Answer
         ensures answer { IsAnswered command.now.request self.new result }
+        ensures asked { self.new.wanted ≡ Some command.now }
         ensures later { IsPrefix self.old.known self.new.known }
         ensures same { self.new.node ≡ self.old.node }
         ensures rests { self.new.rests ≤ self.old.rests + looks }
@@ -264,6 +294,7 @@ impl<'d, 'x, W: WindowName, T: Turnstile, R: Wait> Handle<'d, 'x, W, T, R> {
     /// `Acknowledged` tells nothing.
     pub fn sync(&mut self, looks: u32, request: RequestNo, name: &Name) -> Answer
         ensures answer { IsAnswered request self.new result }
+        ensures asked { self.new.wanted ≡ Some (to_itself request name.now) }
         ensures later { IsPrefix self.old.known self.new.known }
         ensures same { self.new.node ≡ self.old.node }
         ensures rests { self.new.rests ≤ self.old.rests + looks }
@@ -303,6 +334,7 @@ impl<'d, 'x, W: WindowName, T: Turnstile, R: Wait> Handle<'d, 'x, W, T, R> {
         ensures later { IsPrefix self.old.known self.new.known }
         ensures same { self.new.node ≡ self.old.node }
         ensures rests { self.new.rests ≡ self.old.rests }
+        ensures asked { self.new.wanted ≡ self.old.wanted }
     {
         made_of!(Op, Sight, Value);
         let node = self.node;
@@ -331,6 +363,7 @@ impl<'d, 'x, W: WindowName, T: Turnstile, R: Wait> Handle<'d, 'x, W, T, R> {
         ensures kept { OnErr result (self.new ≡ self.old) }
         ensures same { self.new.node ≡ self.old.node }
         ensures rests { self.new.rests ≡ self.old.rests }
+        ensures asked { self.new.wanted ≡ self.old.wanted }
         ensures err { IfErr result (λ e. (e ≡ OutOfMemory) ⊎ (e ≡ NoGuard)) }
     {
         self.seat.list(alloc, prefix)
@@ -362,6 +395,7 @@ impl<'d, 'x, W: WindowName, T: Turnstile, R: Wait> Handle<'d, 'x, W, T, R> {
         ensures kept { OnErr result ((self.new ≡ self.old) × (watch.new ≡ watch.old)) }
         ensures same { self.new.node ≡ self.old.node }
         ensures rests { self.new.rests ≡ self.old.rests }
+        ensures asked { self.new.wanted ≡ self.old.wanted }
         ensures err { IfErr result (λ e. (e ≡ OutOfMemory) ⊎ (e ≡ NoGuard)) }
     {
         self.seat.changes(alloc, prefix, watch)
@@ -370,6 +404,7 @@ impl<'d, 'x, W: WindowName, T: Turnstile, R: Wait> Handle<'d, 'x, W, T, R> {
     /// Asks this node what a line asks, no matter which node the line names.
     pub fn ask(&mut self, line: &ScriptLine) -> Answer
         ensures answer { IsAnswerTo line.now self.old self.new result }
+        ensures asked { self.new.wanted ≡ wanted_after line.now self.old }
         ensures later { IsPrefix self.old.known self.new.known }
         ensures same { self.new.node ≡ self.old.node }
         ensures rests { self.new.rests ≤ self.old.rests + 10_000_000 }
@@ -380,6 +415,7 @@ impl<'d, 'x, W: WindowName, T: Turnstile, R: Wait> Handle<'d, 'x, W, T, R> {
     /// Asks as `ask` does, and gives a submit up after so many looks for its reply, as `submit_within` does.
     pub fn ask_within(&mut self, looks: u32, line: &ScriptLine) -> Answer
         ensures answer { IsAnswerTo line.now self.old self.new result }
+        ensures asked { self.new.wanted ≡ wanted_after line.now self.old }
         ensures later { IsPrefix self.old.known self.new.known }
         ensures same { self.new.node ≡ self.old.node }
         ensures rests { self.new.rests ≤ self.old.rests + looks }
@@ -412,6 +448,7 @@ pub fn serve<'d, 'x, W: WindowName, T: Turnstile, R: Wait, C: Client + Drop>(
                 node: desk.node,
                 seat,
                 rests: 0,
+                wanted: None,
             };
             client.run(&mut handle)
         }

@@ -1,6 +1,8 @@
 //! How a flusher or a publisher goes on, rests and ends a run.
 
+ghost use Rattle.std.specs.Prelude.{◌≡◌};
 ghost use Rattle.rr_turn.specs.Asked.{Call};
+ghost use Rattle.rr_threads.specs.Rests.{rest_gives};
 
 use crate::rest::Rest;
 use crate::running::Running;
@@ -9,7 +11,8 @@ use rr_types::{NodeId, Refusal};
 use std::sync::Wait;
 use std::thread::Parker;
 
-/// The rest of a thread of a node beside its loop, and the run. No contract knows what these hold: each call is one line, to be read.
+/// The rest of a thread of a node beside its loop, and the run. Contracts see how long it rests. That it does rest, and that the run ends
+/// where it fails, no contract knows: each of these calls is one line, to be read.
 #[derive(Drop)]
 pub struct Aside<'x, R> {
     rt: &'x R,
@@ -21,7 +24,11 @@ pub struct Aside<'x, R> {
 
 impl<'x, R> Aside<'x, R> {
     /// The thread has found something to do, as its start is.
-    pub fn new(rt: &'x R, running: &'x Running, node: NodeId, bell: &'x Parker) -> Aside<'x, R> {
+    pub fn new(rt: &'x R, running: &'x Running, node: NodeId, bell: &'x Parker) -> Aside<'x, R>
+        ensures node { result.node ≡ node }
+        ensures bell { result.bell.now ≡ bell.now }
+        ensures rest { result.rest ≡ record { looks = 0; micros = 50_000; first = 50_000; longest = 50_000 } }
+    {
         Aside {
             rt,
             running,
@@ -33,7 +40,7 @@ impl<'x, R> Aside<'x, R> {
 }
 
 impl<'x, R: Wait> Course for Aside<'x, R> {
-    ghost gives = { λ _ _ _. Unit {0} };
+    ghost gives = { λ old call new. rest_gives old.rest call new.rest };
 
     fn go_on(&mut self) {
         self.rest.end();

@@ -3,7 +3,8 @@
 //! No contract knows what lies under a lock or in an atomic. What is done to it there has its clauses at `Waiting` and `Count`. The calls of
 //! `Counter`, `Snapshots` and `Desk` that reach it are a line or two each, and are read: that they do it, and that they ring behind it.
 
-ghost use Rattle.std.specs.Prelude.{◌≡◌, ◌<◌, ◌≤◌, ◌+◌, ◌^◌, min, true, false, Some, IfNone, IfSome};
+ghost use Rattle.std.specs.Prelude.{◌≡◌, ◌<◌, ◌≤◌, ◌+◌, ◌^◌, min, slice_get, true, false, Some, IfNone, IfSome};
+ghost use Rattle.std.specs.Option.{option_copied};
 ghost use Rattle.rr_types.specs.Registry.{is_same_request, reply_of};
 ghost use Rattle.rr_types.specs.declared.command.Command.{Command};
 ghost use Rattle.rr_types.specs.declared.command.RequestNo.{RequestNo};
@@ -85,6 +86,12 @@ impl<W: WindowName> Waiting<W> {
     }
 }
 
+/// That a command was put on a counter, to be submitted. Only `Counter::want` gives this.
+#[derive(Clone, Copy, Debug)]
+pub struct Wanted {
+    command: Command,
+}
+
 /// Where a client waits for its receipts: what it waits for, and its bell.
 #[derive(Drop)]
 pub struct Counter<W: WindowName> {
@@ -102,9 +109,12 @@ impl<W: WindowName> Counter<W> {
     }
 
     /// From now on the client waits until this command is submitted, and then for the reply.
-    pub fn want<R: Wait>(&self, rt: &R, command: &Command) {
+    pub fn want<R: Wait>(&self, rt: &R, command: &Command) -> Wanted
+        ensures { result.command ≡ command.now }
+    {
         made_of!(Op);
         *self.waiting.lock(rt) = Waiting::Submit(*command);
+        Wanted { command: *command }
     }
 
     /// The command that is to be submitted, if there is one. Its client waits for the reply from now on.
@@ -243,12 +253,16 @@ impl Snapshots {
     }
 
     /// Asks for one more, which isn't written. None: no number is left.
-    pub fn ask<R: Wait>(&self, rt: &R) -> Option<Asked> {
+    pub fn ask<R: Wait>(&self, rt: &R) -> Option<Asked>
+        ensures { IfSome result (λ asked. 0 < asked.number) }
+    {
         self.count.lock(rt).ask()
     }
 
     /// That the last that was asked for is due, unless it is written.
-    pub fn next<R: Wait>(&self, rt: &R) -> Option<Due> {
+    pub fn next<R: Wait>(&self, rt: &R) -> Option<Due>
+        ensures { IfSome result (λ due. 0 < due.number) }
+    {
         self.count.lock(rt).next()
     }
 
@@ -313,7 +327,9 @@ impl<W: WindowName> Desk<W> {
     }
 
     /// The counter of the client at `place`, if there is one.
-    pub fn counter(&self, place: usize) -> Option<&Counter<W>> {
+    pub fn counter(&self, place: usize) -> Option<&Counter<W>>
+        ensures { option_copied result ≡ slice_get self.now.counters.items place }
+    {
         self.counters.get(place)
     }
 

@@ -2,7 +2,9 @@
 //!
 //! When its loop ends, and that what became of a group comes to be taken, is in no contract: `flush_all` and `give_back` are read.
 
+ghost use Rattle.std.specs.Prelude.{◌≡◌};
 ghost use Rattle.rr_turn.specs.Asked.{Call};
+ghost use Rattle.rr_threads.specs.Belts.{belt_gives};
 
 use crate::course::Aside;
 use crate::desk::Desk;
@@ -27,7 +29,9 @@ pub struct Flusher<D: Disk> {
 }
 
 /// Gives back what became of a group, once there is room. Where nobody takes it, the node goes down.
-fn give_back<B: Drop, R: Wait>(rt: &R, backs: &mut Giver<B>, back: B) {
+fn give_back<B: Drop, R: Wait>(rt: &R, backs: &mut Giver<B>, back: B)
+    ensures { backs.new.queue ≡ backs.old.queue }
+{
     let mut waiting = back;
     for _ in rt.forever() {
         match backs.give(rt, waiting) {
@@ -38,7 +42,8 @@ fn give_back<B: Drop, R: Wait>(rt: &R, backs: &mut Giver<B>, back: B) {
     }
 }
 
-/// The ends of a flusher, which it owns, and the bell that it rings. No contract knows what these hold: each call is one line, to be read.
+/// The ends of a flusher, which it owns, and the bell that it rings. Contracts see which group is taken. What is given back is put where
+/// there is room, and no contract knows that there will be: that call is one line, to be read.
 #[derive(Drop)]
 struct Belt<'x, R> {
     rt: &'x R,
@@ -48,8 +53,9 @@ struct Belt<'x, R> {
 }
 
 impl<'x, R: Wait> FlusherEnds for Belt<'x, R> {
-    ghost gives = { λ _ _ _. Unit {0} };
+    ghost gives = { λ old call new. belt_gives old.groups old.backs.queue call new.groups new.backs.queue };
 
+    #[tactic(auto, using(crate::proofs::Belting::received))]
     fn receive(&mut self) -> Option<Group> {
         self.groups.take(self.rt)
     }

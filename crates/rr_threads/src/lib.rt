@@ -76,6 +76,7 @@ mod summary;
 mod switches;
 mod switching;
 mod wires;
+mod wiring;
 
 pub use client::{Client, Handle};
 pub use desk::Written;

@@ -3,9 +3,11 @@
 //! No contract says that a thread runs, nor what it gives at its end. So which threads are started and joined, and that they work over what
 //! they are given, is read: the calls named `start_..` and `join..`, `run_threads` and `run_crew`.
 
-ghost use Rattle.std.specs.Prelude.{◌≡◌, length, map, vec_len, IfOk};
+ghost use Rattle.std.specs.Prelude.{◌≡◌, ◌&&◌, [], is_ok, is_some, length, map, vec_len, IfOk};
 ghost use Rattle.std.specs.List.{range_with_len};
 ghost use Rattle.std.specs.Thread.{IsSend};
+ghost use Rattle.rr_turn.specs.Listed.{listed};
+ghost use Rattle.rr_threads.specs.Joins.{AreJoined};
 
 use crate::client::{Client, serve};
 use crate::desk::{Counter, Desk};
@@ -66,7 +68,10 @@ struct HandOvers {
 }
 
 /// Makes the hand-overs of a node. It is `OutOfMemory`.
-fn open_hand_overs(alloc: Global) -> Result<HandOvers, Refusal> {
+fn open_hand_overs(alloc: Global) -> Result<HandOvers, Refusal>
+    ensures groups { IfOk result (λ made. made.groups.0.queue ≡ made.groups.1.queue) }
+    ensures backs { IfOk result (λ made. made.backs.0.queue ≡ made.backs.1.queue) }
+{
     let groups = hand_over(alloc)?;
     match hand_over(alloc) {
         Ok(backs) => Ok(HandOvers { groups, backs }),
@@ -120,6 +125,9 @@ fn open_ends<W: WindowName, C: Drop, R: Wait>(
     clients: Vec<C>,
 ) -> Result<Ends<W, C>, Refusal>
     requires { list ≡ W.book }
+    ensures fresh { IfOk result (λ ends. listed ends.follower ≡ []) }
+    ensures clients { IfOk result (λ ends. map (λ s. s.client) ends.seated.items ≡ clients.items) }
+    ensures places { IfOk result (λ ends. map (λ s. s.place) ends.seated.items ≡ range_with_len 0 (length ends.seated.items)) }
 {
     let (follower, seats) = Follower::<W>::open(alloc, list)?;
     match seat_all(alloc, &seats, clients) {
@@ -158,6 +166,9 @@ struct Crew<D: Disk> {
 
 /// Shares a node out among its threads.
 fn share_out<D: Disk>(part: Part<D>, hand_overs: HandOvers) -> Crew<D>
+    requires groups { hand_overs.groups.0.queue ≡ hand_overs.groups.1.queue }
+    requires backs { hand_overs.backs.0.queue ≡ hand_overs.backs.1.queue }
+    ensures joined { AreJoined result.flusher result.runner }
     ensures whose { (result.start ≡ part.start) × (result.node ≡ part.node) × (result.core ≡ part.core) }
     ensures holds { (result.flusher.journal ≡ part.journal) × (result.runner.ends.mail ≡ part.mail) }
 {
@@ -323,7 +334,9 @@ struct Threading<D, C> {
 
 impl<D: Drop, C: Drop> Threading<D, C> {
     /// Whether each thread could be made.
-    fn is_whole(&self) -> bool {
+    fn is_whole(&self) -> bool
+        ensures { result ≡ (is_some self.now.flusher && is_some self.now.runner && is_ok self.now.clients) }
+    {
         self.flusher.is_some() && self.runner.is_some() && self.clients.is_ok()
     }
 
@@ -364,7 +377,9 @@ fn run_threads<
     runner: Runner,
     follower: &mut Follower<W>,
     seated: Vec<Seated<W, C>>,
-) -> Result<Remains<D, C>, Refusal> {
+) -> Result<Remains<D, C>, Refusal>
+    requires { AreJoined flusher runner }
+{
     thread::scope(
         thread::scope_env(),
         rt,
@@ -400,7 +415,10 @@ fn run_crew<
     crew: Crew<D>,
     ends: Ends<W, C>,
     counters: Vec<Counter<W>>,
-) -> Result<Remains<D, C>, Refusal> {
+) -> Result<Remains<D, C>, Refusal>
+    requires joined { AreJoined crew.flusher crew.runner }
+    requires fresh { listed ends.follower ≡ [] }
+{
     let Crew {
         start,
         node,
@@ -413,8 +431,9 @@ fn run_crew<
         seated,
         seats: _seats,
     } = ends;
+    let first = publish_first(rt, &core, &mut follower);
     let desk: Desk<W> = Desk::new(node, start, Locked::new(core), counters);
-    match publish_first(rt, &desk, &mut follower) {
+    match first {
         Ok(published) => shared.note_up(node, published),
         Err(refusal) => shared.running.fail(rt, node, refusal),
     }

@@ -3,7 +3,7 @@
 //! A turn has its clauses in rr_turn. That turn follows turn until the node goes down is read: `publish_all`.
 
 ghost use Rattle.std.specs.Prelude.{◌≡◌, [], OnOk};
-ghost use Rattle.rr_model.specs.NodeState.{NodeState, decided_prefix};
+ghost use Rattle.rr_model.specs.NodeState.{decided_prefix};
 ghost use Rattle.rr_turn.specs.Listed.{listed};
 ghost use Rattle.rr_turn.specs.Asked.{Call};
 
@@ -19,14 +19,6 @@ use std::alloc::Global;
 use std::collections::VecDeque;
 use std::sync::Wait;
 
-// Lists all that a node has decided, where nothing was listed before.
-fn follow_first<W: WindowName>(core: &Core, follower: &mut Follower<W>) -> Result<(), Refusal>
-    ensures { listed follower.old ≡ [] → OnOk result (listed follower.new ≡ decided_prefix core.now) }
-{
-    follower.follow(core)?;
-    Ok(())
-}
-
 /// That what a node had from its disk is published. Only `publish_first` gives this.
 #[derive(Clone, Copy, Debug)]
 pub struct Published {
@@ -36,12 +28,13 @@ pub struct Published {
 /// Publishes what a node has from its disk, so that no client looks at less. Nothing was listed before.
 pub fn publish_first<W: WindowName, R: Wait>(
     rt: &R,
-    desk: &Desk<W>,
+    core: &Core,
     follower: &mut Follower<W>,
 ) -> Result<Published, Refusal>
-    ensures { listed follower.old ≡ [] → OnOk result ((s : NodeState) × (follower.new ≡ record { published = decided_prefix s; appended = [] })) }
+    requires { listed follower.old ≡ [] }
+    ensures { OnOk result (follower.new ≡ record { published = decided_prefix core.now; appended = [] }) }
 {
-    follow_first(desk.locked.lock(rt).core(), follower)?;
+    follower.follow(core)?;
     follower.publish(rt)?;
     Ok(Published { first: () })
 }

@@ -53,7 +53,10 @@ pub struct Scribe<'x, R> {
 }
 
 impl<'x, R> Scribe<'x, R> {
-    pub fn new(rt: &'x R, recorder: Option<&'x Recorder>) -> Scribe<'x, R> {
+    /// One that records there, if there is a recorder.
+    pub fn new(rt: &'x R, recorder: Option<&'x Recorder>) -> Scribe<'x, R>
+        ensures { is_some result.recorder ≡ is_some recorder.entry }
+    {
         Scribe { rt, recorder }
     }
 

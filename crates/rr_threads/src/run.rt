@@ -2,9 +2,11 @@
 //!
 //! No contract says that a thread runs. That each node gets one, and which refusal a run has, is read: `start_node`, `start_all`, `run_scope`.
 
-ghost use Rattle.std.specs.Prelude.{◌≡◌, ◌<◌, length, IfOk};
+ghost use Rattle.std.specs.Prelude.{◌≡◌, ◌<◌, length, map, IfOk};
 ghost use Rattle.std.specs.Duration.{as_nanos};
+ghost use Rattle.std.specs.List.{range_with_len};
 ghost use Rattle.std.specs.Thread.{IsSend};
+ghost use Rattle.rr_threads.specs.Ways.{AreWired};
 
 use crate::agreeing::{Agreed, all_agree};
 use crate::client::Client;
@@ -14,13 +16,11 @@ use crate::recorder::Recorder;
 use crate::running::Running;
 use crate::shared::{Shared, Start};
 use crate::switches::Switches;
-use crate::wires::{Mail, Way};
+use crate::wiring::open_mails;
 use rr_disk::Disk;
-use rr_turn::{Kept, Sent, Turnstile};
+use rr_turn::Turnstile;
 use rr_types::{NodeId, Nodes, Refusal};
-use rr_window::Outlet;
 use std::alloc::Global;
-use std::collections::VecDeque;
 use std::sync::Wait;
 use std::thread;
 use std::thread::{Scope, Threads};
@@ -39,38 +39,6 @@ pub fn usual_tick() -> Duration
 /// The refusal where two disks decide an instance differently.
 const DIFFERENT: Refusal = Refusal::Damaged { area: 0, offset: 0 };
 
-/// The ends that put into each inbox, for one node.
-fn ways_of(alloc: Global, inboxes: &mut VecDeque<Outlet<Sent>>) -> Result<Vec<Way>, Refusal> {
-    let mut ways = Vec::new(alloc);
-    for inbox in inboxes.iter_mut() {
-        let port = inbox.port()?;
-        ways.push(Way::new(port))?;
-    }
-    Ok(ways)
-}
-
-/// An inbox for each node.
-fn open_inboxes(alloc: Global, nodes: Nodes) -> Result<VecDeque<Outlet<Sent>>, Refusal> {
-    let mut inboxes = VecDeque::new(alloc);
-    for _ in 0..nodes.count() {
-        inboxes.push_back(Outlet::new(alloc)?)?;
-    }
-    Ok(inboxes)
-}
-
-/// The ends that put into each inbox, for each node.
-fn open_rows(
-    alloc: Global,
-    nodes: Nodes,
-    inboxes: &mut VecDeque<Outlet<Sent>>,
-) -> Result<VecDeque<Vec<Way>>, Refusal> {
-    let mut rows = VecDeque::new(alloc);
-    for _ in 0..nodes.count() {
-        rows.push_back(ways_of(alloc, inboxes)?)?;
-    }
-    Ok(rows)
-}
-
 /// Opens the nodes of these disks, the lowest first, each with its clients.
 fn open_parts<D: Disk + Drop, T: Turnstile, C: Drop>(
     turnstile: &T,
@@ -80,24 +48,30 @@ fn open_parts<D: Disk + Drop, T: Turnstile, C: Drop>(
     clients: Vec<Vec<C>>,
 ) -> Result<Vec<(Part<D>, Vec<C>)>, Refusal>
     requires alike { (one other : D) → D.tells one → D.tells other }
+    requires disks { length disks.items ≡ nodes }
+    requires clients { length clients.items ≡ nodes }
+    ensures nodes { IfOk result (λ parts. map (λ p. p.0.node) parts.items ≡ range_with_len 0 nodes) }
+    ensures wired { IfOk result (λ parts. AreWired (map (λ p. p.0.mail) parts.items)) }
+    ensures clients { IfOk result (λ parts. map (λ p. p.1) parts.items ≡ clients.items) }
 {
-    let mut inboxes = open_inboxes(alloc, nodes)?;
-    let mut rows = open_rows(alloc, nodes, &mut inboxes)?;
+    let mails = open_mails(alloc, nodes)?;
+    let mut disks = disks.into_iter();
+    let mut clients = clients.into_iter();
     let mut parts = Vec::new(alloc);
     let mut index = 0u8;
-    for (disk, clients) in disks.into_iter().zip(clients) {
-        let (Some(node), Some(inbox), Some(ways)) = (
-            NodeId::new(nodes, index),
-            inboxes.pop_front(),
-            rows.pop_front(),
-        ) else {
-            break;
+    for mail in mails {
+        let Some(node) = NodeId::new(nodes, index) else {
+            unreachable!()
         };
-        let kept = Kept::new();
-        let mail = Mail { inbox, ways, kept };
+        let Some(disk) = disks.next() else {
+            unreachable!()
+        };
+        let Some(own) = clients.next() else {
+            unreachable!()
+        };
         let part = open_part(turnstile, alloc, Start::first(), nodes, node, disk, mail)?;
-        parts.push((part, clients))?;
-        index = index.saturating_add(1);
+        parts.push((part, own))?;
+        index += 1;
     }
     Ok(parts)
 }
@@ -163,13 +137,7 @@ fn run_scope<
     T: Turnstile + Sync,
     R: Threads + Wait + Clock + Sync,
     C: Client + Drop + Send,
->(
-    rt: &'s R,
-    alloc: Global,
-    shared: &'s Shared<'x, T>,
-    parts: Vec<(Part<D>, Vec<C>)>,
-    _agreed: Agreed,
-)
+>(rt: &'s R, alloc: Global, shared: &'s Shared<'x, T>, agreed: Agreed<D, C>)
     requires alike { (one other : D) → D.tells one → D.tells other }
 {
     thread::scope(
@@ -177,7 +145,7 @@ fn run_scope<
         rt,
         |scope|
             requires { IsSend D.row × IsSend C.row × ((one other : D) → D.tells one → D.tells other) }
-        { start_all(scope, rt, alloc, shared, parts) },
+        { start_all(scope, rt, alloc, shared, agreed.into_parts()) },
     );
 }
 
@@ -216,18 +184,18 @@ pub fn run_all<
         return Err(Refusal::BadNodes);
     }
     let parts = open_parts(turnstile, alloc, nodes, disks, clients)?;
-    let Some(agreed) = all_agree(&parts) else {
+    let Some(agreed) = all_agree(parts) else {
         return Err(DIFFERENT);
     };
     let shared = Shared {
         nodes,
         tick,
-        running: Running::new(alloc, count_clients(&parts))?,
+        running: Running::new(alloc, count_clients(agreed.parts()))?,
         recorder,
         switches,
         turnstile,
     };
-    run_scope(rt, alloc, &shared, parts, agreed);
+    run_scope(rt, alloc, &shared, agreed);
     let Shared {
         nodes: _,
         tick: _,

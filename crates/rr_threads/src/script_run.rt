@@ -76,9 +76,11 @@ impl<'x> Client for Reader<'x> {
 }
 
 /// Room for the answers to `count` lines.
-fn slots(alloc: Global, count: usize) -> Result<Vec<Option<Answer>>, Refusal> {
+fn slots(alloc: Global, count: usize) -> Result<Vec<Option<Answer>>, Refusal>
+    ensures { IfOk result (λ slots. length slots.items ≡ count) }
+{
     let mut slots = Vec::new(alloc);
-    for _ in 0..count {
+    for made in 0..count {
         slots.push(None)?;
     }
     Ok(slots)
@@ -140,9 +142,11 @@ fn readers<'x>(
     lines: &'x [ScriptLine],
     answers: &'x Mutex<Vec<Answered>>,
     reused: &'x Mutex<Vec<Reused>>,
-) -> Result<Vec<Vec<Reader<'x>>>, Refusal> {
+) -> Result<Vec<Vec<Reader<'x>>>, Refusal>
+    ensures { IfOk result (λ readers. length readers.items ≡ nodes) }
+{
     let mut readers = Vec::new(alloc);
-    for _ in 0..nodes.count() {
+    for made in 0..nodes.count() {
         let reader = Reader {
             alloc,
             lines,

@@ -3,7 +3,8 @@
 //! No contract knows what an atomic holds. What a count of moves means has its clauses (`is_even`, `if_on`). That a switch is moved, noted and
 //! looked at is read: a line or two each.
 
-ghost use Rattle.std.specs.Prelude.{◌≡◌, ◌%◌, ◌==◌, if◌then◌else◌, None, Some, vec_len, IfOk};
+ghost use Rattle.std.specs.Prelude.{◌≡◌, ◌%◌, ◌==◌, if◌then◌else◌, None, Some, slice_get, vec_len, IfOk};
+ghost use Rattle.std.specs.Option.{option_copied};
 
 use crate::rest::LONG;
 use crate::run::usual_tick;
@@ -106,7 +107,10 @@ impl Switches {
         self.tick
     }
 
-    fn switch(&self, node: NodeId) -> Option<&Switch> {
+    // A node's switch, if the run has the node.
+    fn switch(&self, node: NodeId) -> Option<&Switch>
+        ensures { option_copied result ≡ slice_get self.now.switches.items node }
+    {
         self.switches.get(usize::from(node.index()))
     }
 

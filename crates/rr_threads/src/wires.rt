@@ -4,7 +4,7 @@
 
 ghost use Rattle.std.specs.Prelude.{◌≡◌, None};
 ghost use Rattle.rr_turn.specs.Asked.{Call};
-ghost use Rattle.rr_threads.specs.Ways.{IsPut, IsPutIfAny, IsPutLate, IsPutTo, IsLatePutAt, AllPutLate, IsTaken};
+ghost use Rattle.rr_threads.specs.Ways.{IsPut, IsPutIfAny, IsPutLate, IsPutTo, IsLatePutAt, AllPutLate, IsTaken, HasSameEnds};
 ghost use Rattle.rr_threads.specs.Mails.{mail_gives};
 
 use crate::desk::Desk;
@@ -101,7 +101,9 @@ impl Mail {
     }
 
     /// A node that is down loses what comes to it, but for what is kept.
-    pub fn keep_all<R: Wait>(&mut self, rt: &R) {
+    pub fn keep_all<R: Wait>(&mut self, rt: &R)
+        ensures { HasSameEnds self.old self.new }
+    {
         for _ in 0..ROOM {
             if self.take(rt).is_none() {
                 break;
