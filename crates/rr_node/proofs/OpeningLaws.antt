@@ -1,6 +1,7 @@
 -- Each device call of an opening does what the definitions say.
-use Rattle.std.proofs.Common.{◌≡◌, ◌≢◌, ◌⊎◌, inl, inr, ℕ, ◌+◌, arith, Bool, true, false, if◌then◌else◌, List, [], ◌∷◌, None, Some, Result, Ok, Err, Vec, refl, sym, ap, subst, ◌∙◌}
+use Rattle.std.proofs.Common.{◌≡◌, ◌≢◌, ◌⊎◌, inl, inr, ℕ, ◌+◌, arith, Bool, true, false, if◌then◌else◌, List, [], ◌∷◌, Option, None, Some, Result, Ok, Err, IfOk, Vec, refl, sym, ap, subst, ◌∙◌}
 use Rattle.std.specs.Global.{Global}
+use Rattle.std.specs.Prelude.{IsSome}
 use Rattle.std.proofs.lemmas.Bool.{false≢true, lt-ltb}
 use Rattle.rr_types.specs.declared.refusal.Refusal.{Refusal}
 use Rattle.rr_types.specs.declared.refusal.Refusal.TheVariants as because
@@ -19,9 +20,11 @@ use Rattle.rr_journal.specs.declared.opening.Phase.TheVariants as step
 use Rattle.rr_journal.specs.declared.opened.Opened.{Opened}
 use Rattle.rr_journal.specs.declared.opening.End.{End}
 use Rattle.rr_journal.specs.Fronts.{KnowsOther}
-use Rattle.rr_journal.specs.StepsInPlace.{journal_of, opened_of}
+use Rattle.rr_journal.specs.StepsInPlace.{journal_of, opened_of, ended_by, as_progress}
 use Rattle.rr_journal.specs.declared.opening.Progress as of_journal
 use Rattle.rr_journal.specs.declared.opening.Progress.TheVariants as of_journal_is
+use Rattle.rr_journal.specs.declared.opening.Stepped as code_2
+use Rattle.rr_journal.specs.declared.opening.Stepped.TheVariants as stepped
 use Rattle.rr_journal.specs.declared.stage.Stage.{Stage}
 use Rattle.rr_journal.specs.declared.stage.Stage.TheVariants as due
 use Rattle.rr_journal.specs.Calls.{Call, Read, Write, Sync, after_call, after_failing, after_starved}
@@ -30,7 +33,7 @@ use Rattle.rr_journal.specs.Openings.{Phase, Settling, ReadingFirst, ReadingSeco
 use Rattle.rr_journal.specs.Migration.{migrated, may_migrate}
 use Rattle.rr_journal.specs.Phases.{phase_of, TakesMemory}
 use Rattle.rr_journal.specs.OpeningSteps.{Steps, MaySnap}
-use Rattle.rr_journal.specs.OpeningTable.{OpensAny}
+use Rattle.rr_journal.specs.OpeningTable.{OpensAny, ComesToAny, disk_after}
 use Rattle.rr_journal.specs.Stages.{calls_from}
 use Rattle.rr_journal.specs.OtherAreas.{other_area, IsOtherKnown}
 use Rattle.rr_journal.specs.Rewrites.{area_anew}
@@ -305,6 +308,31 @@ opens_stopped n p o e new (inr (j, ending, steps, is)) count other h =
 -- a node that opens has one opening
 pub one_opening : (o other : OpeningState NodeDisk) → does.Opening o ≡ does.Opening other → o ≡ other
 one_opening o other same = cc
+
+-- an opening that has an end has this one
+pub an_end : (found : Option End) → IsSome found → (end : End) × (found ≡ Some end)
+an_end None some = absurd some
+an_end (Some end) some = (end, refl)
+
+pub is_there : (found : Option End) (end : End) → found ≡ Some end → IsSome found
+is_there None end is = absurd cc
+is_there (Some other) end is = tt
+
+-- the last step of an opening left its end in it
+pub ended_there : (old o : OpeningState NodeDisk) (end : End) (told : code_2.Stepped) → told ≡ stepped.Ended → o.end ≡ Some end → Steps (FailingRead MemoryRead) (FailingWrite MemoryWrite) (FailingSync MemorySync) old (as_progress {D = NodeDisk} o (Ok told))
+    → IfOk (as_progress {D = NodeDisk} o (Ok told)) (λ (y : of_journal.Progress NodeDisk). ComesToAny {D = NodeDisk} areas_in y)
+    → IfOk (as_progress {D = NodeDisk} o (Ok told)) (λ (y : of_journal.Progress NodeDisk). KnowsOther {D = NodeDisk} areas_in y)
+    → IfOk (as_progress {D = NodeDisk} o (Ok told)) (λ (y : of_journal.Progress NodeDisk). MaySnap {D = NodeDisk} y)
+    → (disk_after {D = NodeDisk} (as_progress {D = NodeDisk} o (Ok told))).calls ≡ counted old.disk.calls → Ended old o end
+ended_there old o end told is there exact comes knows snaps calls =
+    let by : as_progress {D = NodeDisk} o (Ok told) ≡ Ok (closed o end) = ap (λ (x : code_2.Stepped). as_progress {D = NodeDisk} o (Ok x)) is ∙ ap (λ (x : Option End). Ok (ended_by {D = NodeDisk} o x)) there in
+    record {
+      steps = subst (λ (x : Result (of_journal.Progress NodeDisk) (Refusal × NodeDisk)). Steps (FailingRead MemoryRead) (FailingWrite MemoryWrite) (FailingSync MemorySync) old x) by exact;
+      comes = subst (λ (x : Result (of_journal.Progress NodeDisk) (Refusal × NodeDisk)). IfOk x (λ (y : of_journal.Progress NodeDisk). ComesToAny {D = NodeDisk} areas_in y)) by comes;
+      knows = subst (λ (x : Result (of_journal.Progress NodeDisk) (Refusal × NodeDisk)). IfOk x (λ (y : of_journal.Progress NodeDisk). KnowsOther {D = NodeDisk} areas_in y)) by knows;
+      snaps = subst (λ (x : Result (of_journal.Progress NodeDisk) (Refusal × NodeDisk)). IfOk x (λ (y : of_journal.Progress NodeDisk). MaySnap {D = NodeDisk} y)) by snaps;
+      calls = subst (λ (x : Result (of_journal.Progress NodeDisk) (Refusal × NodeDisk)). (disk_after {D = NodeDisk} x).calls ≡ counted old.disk.calls) by calls;
+    }
 
 -- what the closing of an opening gives: the node starts to serve
 pub closes_served : (n p : ℕ) (old o : OpeningState NodeDisk) (end : End) (core : NodeState) (slots : Journal NodeDisk) (answer : Result Outcome Refusal) (new : doing.Doing) → Ended old o end
