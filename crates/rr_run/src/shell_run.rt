@@ -12,7 +12,7 @@ use crate::beside::talk_beside;
 use crate::closed::end_by_closed;
 use crate::console::Console;
 use crate::defaults::{FOLDER, nodes_by, show_defaults};
-use crate::post::Post;
+use crate::post::{AtPost, Post};
 use crate::script_run::end_by_run_fault;
 use crate::teller::tellers;
 use crate::ticking::tick_by;
@@ -111,7 +111,7 @@ where
         nodes,
         client,
         block,
-        board: &post,
+        board: AtPost { post: &post },
         unanswered: None,
         hint: None,
         has_warned: false,
