@@ -10,3 +10,4 @@ pub mod Folders
 pub mod Agreement
 pub mod Exports
 pub mod Texts
+pub mod Surveys

@@ -1,7 +1,8 @@
 //! The folders of a cluster, found and opened.
 
-ghost use Rattle.std.specs.Prelude.{◌≡◌, ◌⊎◌, length, Contains, IfOk, IfErr};
+ghost use Rattle.std.specs.Prelude.{◌≡◌, ◌⊎◌, length, Contains, IsOk, IfOk, IfErr};
 ghost use Rattle.rr_types.specs.declared.refusal.Refusal.TheVariants.{Device, OutOfMemory};
+ghost use Rattle.rr_folders.specs.Surveys.{IsPrepared, MayBeOpened};
 
 use crate::closed::{Closed, done};
 use crate::cluster::Cluster;
@@ -37,7 +38,8 @@ pub struct Folders<
     pub disks: Vec<NodeDisk<'x, F, R>>,
 }
 
-/// What was found in the folder DIR, which is locked while this is there. Contracts see how many nodes it was looked through for.
+/// What was found in the folder DIR, which is locked while this is there. Contracts see for how many nodes it was looked through, and
+/// what is to be done with it.
 #[derive(Drop)]
 pub struct Survey<F> {
     pub(crate) locks: Locks<F>,
@@ -51,11 +53,12 @@ pub struct Survey<F> {
 }
 
 impl<F> Model for Survey<F> {
-    ghost use Rattle.std.specs.Prelude.{ℕ, length};
+    ghost use Rattle.std.specs.Prelude.{length};
+    ghost use Rattle.rr_folders.specs.Surveys.{Surveyed};
 
-    ghost Value = { ℕ };
+    ghost Value = { Surveyed };
 
-    ghost view = { λ s. length s.seen.items };
+    ghost view = { λ s. record { nodes = length s.seen.items; verdict = s.verdict } };
 }
 
 impl<F> Survey<F> {
@@ -123,7 +126,7 @@ fn look_in<
     F: Read + Write + Seek + FileExt + OpenFile + Drop + Lockable,
     R: Files<File = F> + AllocGlobal,
 >(rt: &R, nodes: Nodes, dir: &str, made: Option<usize>) -> Result<Survey<F>, Closed>
-    ensures { IfOk result (λ s. s ≡ nodes) }
+    ensures { IfOk result (λ s. s.nodes ≡ nodes) }
 {
     let mut locks = Locks::on(rt, dir)?;
     let mut seen = Vec::new(rt.alloc());
@@ -161,7 +164,7 @@ pub fn survey_folders<
     F: Read + Write + Seek + FileExt + OpenFile + Drop + Lockable,
     R: Files<File = F> + AllocGlobal,
 >(rt: &R, nodes: Nodes, dir: &str) -> Result<Survey<F>, Closed>
-    ensures { IfOk result (λ s. s ≡ nodes) }
+    ensures { IfOk result (λ s. s.nodes ≡ nodes) }
 {
     let made = first_missing(rt, dir);
     let looked = match done(rt, dir, "making the folder", make_folder(rt, dir)) {
@@ -241,7 +244,9 @@ fn prepare<F, R: Files<File = F> + AllocGlobal>(
     nodes: Nodes,
     dir: &str,
     survey: &Survey<F>,
-) -> Result<Cluster, Closed> {
+) -> Result<Cluster, Closed>
+    ensures { IsPrepared nodes survey.now.verdict result }
+{
     match survey.verdict {
         Verdict::Refused(node, fault) => Err(Closed::Refused(node, fault)),
         Verdict::Begin => begin(rt, dir, nodes, survey),
@@ -267,7 +272,8 @@ pub fn enter<
     F: Read + Write + Seek + FileExt + OpenFile + Drop + Lockable,
     R: Files<File = F> + AllocGlobal,
 >(rt: &'x R, nodes: Nodes, dir: &str, survey: Survey<F>) -> Result<Folders<'x, F, R>, Closed>
-    ensures { IfOk result (λ f. length f.disks.items ≡ nodes) }
+    ensures disks { IfOk result (λ f. length f.disks.items ≡ nodes) }
+    ensures allowed { IsOk result → MayBeOpened survey.verdict }
 {
     let mut survey = survey;
     let cluster = prepare(rt, nodes, dir, &survey)?;

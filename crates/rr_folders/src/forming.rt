@@ -341,7 +341,9 @@ pub(crate) fn tidy<F, R: Files<File = F> + AllocGlobal>(
 }
 
 // The cluster, of which all nodes have been formatted.
-fn all_of(cluster: &Cluster) -> Cluster {
+fn all_of(cluster: &Cluster) -> Cluster
+    ensures { result.nodes ≡ cluster.now.nodes }
+{
     let mut all = *cluster;
     for index in 0..all.nodes.count() {
         if let Some(node) = NodeId::at(index) {
@@ -366,7 +368,9 @@ pub(crate) fn conclude<F, R: Files<File = F> + AllocGlobal>(
     dir: &str,
     cluster: &Cluster,
     survey: &Survey<F>,
-) -> Result<Cluster, Closed> {
+) -> Result<Cluster, Closed>
+    ensures { IfOk result (λ all. all.nodes ≡ cluster.now.nodes) }
+{
     let all = all_of(cluster);
     let path = format!(in rt.alloc(); "{dir}/cluster")?;
     let fresh = format!(in rt.alloc(); "{dir}/cluster.new")?;
@@ -391,7 +395,9 @@ pub(crate) fn begin<F, R: Files<File = F> + AllocGlobal>(
     dir: &str,
     nodes: Nodes,
     survey: &Survey<F>,
-) -> Result<Cluster, Closed> {
+) -> Result<Cluster, Closed>
+    ensures { IfOk result (λ cluster. cluster.nodes ≡ nodes) }
+{
     let cluster = Cluster {
         identity: draw_identity(rt)?,
         nodes,
@@ -413,7 +419,9 @@ pub(crate) fn take_on<F, R: Files<File = F> + AllocGlobal>(
     nodes: Nodes,
     named: Option<Identity>,
     survey: &Survey<F>,
-) -> Result<Cluster, Closed> {
+) -> Result<Cluster, Closed>
+    ensures { IfOk result (λ cluster. cluster.nodes ≡ nodes) }
+{
     let identity = match named {
         Some(identity) => identity,
         None => draw_identity(rt)?,
