@@ -45,6 +45,13 @@ impl Block {
         }
     }
 
+    /// The first number that no longer belongs to the block.
+    pub fn end(&self) -> u64
+        ensures { result ≡ self.now.end }
+    {
+        self.end
+    }
+
     /// The next number, which then is used; none where all are.
     pub fn take(&mut self) -> Option<u64>
         ensures some { IfSome result (λ n. (n ≡ self.old.next) × (n < self.old.end) × (self.new ≡ record { next = n + 1; end = self.old.end })) }

@@ -137,7 +137,7 @@ impl<
     F: Read + Write + Seek + FileExt + OpenFile + Drop,
     R: Files<File = F> + AllocGlobal + Wait,
 > Console<'x, B, F, R> {
-    // A request number that was never given. At the end of a block the next one is reserved.
+    // A request number that was never given. At the end of a block the next one is reserved, which begins no earlier than this one ends.
     fn next_request(&mut self) -> Result<RequestNo, Refusal>
         ensures own { IfOk result (λ q. q.client ≡ self.old.client) }
         ensures next { IfOk result (λ q. IsNext self.old.block self.new.block q.seq) }
@@ -147,7 +147,7 @@ impl<
         if let Some(seq) = self.block.take() {
             return Ok(RequestNo { client, seq });
         }
-        self.block = self.locks.reserve(self.rt, 0)?;
+        self.block = self.locks.reserve(self.rt, self.block.end())?;
         match self.block.take() {
             Some(seq) => Ok(RequestNo { client, seq }),
             None => Err(Refusal::TooLarge),
