@@ -1,7 +1,8 @@
 """A node's disk forgets: an area is emptied, cut or has a flipped bit, behind snapshots, at one node or at a majority of them.
 
 What was acknowledged is the model: names, each with its owner and its value. Behind the harm a cluster is refused, with a line that
-names a folder, and nothing is written; or it's served, and each answer is the model's.
+names a folder, and nothing is written; or it's served, and each answer is the model's. The same holds of folders that version 1 wrote and
+that were migrated.
 
 Each call on the marks of a shell goes wrong too, or the process is killed at it. The next shell is never locked out, and has what was
 acknowledged.
@@ -21,12 +22,14 @@ FEW_BITS, FEW_CUTS = 37, 3
 # Of a shell that claims and writes snapshots: the calls on marks that go wrong.
 CALLS = [(kind, how) for kind in ("open", "write", "sync", "rename") for how in ("EIO", "kill", "killed")]
 MOST_CALLS = 200
+# In place of a number of snapshots: the folders were written by version 1, and migrated.
+MIGRATED = "migrated"
 
 
 def tasks(options):
     sizes = (1, 3) if options.short else (1, 3, 5)
     marks = [("marks", nodes, *it) for nodes in sizes[:2] for it in CALLS]
-    return [("forgetting", nodes, snapshots) for nodes in sizes for snapshots in (0, 1, 2)] + (marks[::5] if options.short else marks)
+    return [("forgetting", nodes, snapshots) for nodes in sizes for snapshots in (0, 1, 2, MIGRATED)] + (marks[::5] if options.short else marks)
 
 
 def work(rig, tally, options, task):
@@ -43,20 +46,49 @@ class Forgetting:
         self.rig, self.tally, self.options, self.nodes, self.snapshots = rig, tally, options, nodes, snapshots
         self.folder, self.kept = rig.path("forgetting"), rig.path("forgetting.kept")
         self.names, lines = [], []
-        for part in range(snapshots + 1):
+        for part in range(1 if snapshots == MIGRATED else snapshots + 1):
             if part:
                 lines += [(f"snapshot {node}", f"snapshot {node}") for node in range(nodes)]
-            for name in (f"n{part}-{node}" for node in range(nodes)):
-                self.names.append(name)
-                lines.append((f"claim {name} v{part}", "claimed"))
-            # (each node has what was decided, so that a majority that forgets would answer by itself)
             for node in range(nodes):
-                lines += [(f"at {node}", f"at {node}"), ("sync", "synced")]
-            lines.append(("at 0", "at 0"))
+                self.names.append(f"n{part}-{node}")
+                lines += [(f"at {node}", f"at {node}"), (f"claim n{part}-{node} v{part}", "claimed")]
+            # (a sync is a transfer, which version 1 doesn't have)
+            lines += [("at 0", "at 0")] if snapshots == MIGRATED else self.syncs()
         for folder in (self.folder, self.kept):
             shutil.rmtree(folder, ignore_errors=True)
         asked = self.shell(self.kept, OWNER, [line for line, _ in lines])
         self.check(asked == (0, "".join(f"{answer}\n" for _, answer in lines).encode(), b""), f"the cluster isn't made: {asked}")
+        if snapshots == MIGRATED:
+            self.migrate()
+
+    def syncs(self):
+        """Lines by which each node has what was decided, so that a majority that forgets would answer by itself."""
+        asked = [(f"at {node}", "sync") for node in range(self.nodes)]
+        return [pair for at, sync in asked for pair in ((at, at), (sync, "synced"))] + [("at 0", "at 0")]
+
+    def claim(self, name):
+        """Claims one more name, which each node knows then."""
+        self.names.append(name)
+        lines = [(f"claim {name} v{name[1 : name.index('-')]}", "claimed"), *self.syncs()]
+        asked = self.shell(self.kept, OWNER, [line for line, _ in lines])
+        self.check(asked == (0, "".join(f"{answer}\n" for _, answer in lines).encode(), b""), f"{name} isn't claimed: {asked}")
+
+    def migrate(self):
+        """Makes the folders such as version 1 wrote, with marks of before, and has a shell migrate them and claim one more name."""
+        for node in range(self.nodes):
+            for name in ("a0", "a1"):
+                path = os.path.join(self.kept, str(node), name)
+                area = scripts.bytes_of(path)
+                with open(path, "wb") as file:
+                    # (the sixth byte of a formatted area is its version)
+                    file.write(area[:5] + b"\x01" + area[6:] if area[:1] == b"\xa5" else area)
+            path = os.path.join(self.kept, str(node), "node")
+            words = scripts.bytes_of(path).split()
+            with open(path, "wb") as file:
+                file.write(b" ".join([b"node-1", *words[1:3], words[-1]]) + b"\n")
+        self.claim("n0-migrated")
+        shown = self.rig.run("show", os.path.join(self.kept, "0"))[:2]
+        self.check(shown[0] == 0 and shown[1].count(b"version 1") == 1, f"version 1 isn't there behind a migration: {shown}")
 
     def shell(self, folder, client, lines, env=None):
         words = ["shell", "--nodes", str(self.nodes), "--dir", folder, "--client", str(client)]
