@@ -39,7 +39,7 @@ def tasks(options):
 
 def work(rig, options, task):
     tally = Tally()
-    if task[0] in ("forgetting", "marks"):
+    if task[0] in ("forgetting", "older", "marks"):
         forgetting.work(rig, tally, options, task)
         return tally
     made = Cluster(rig, tally, 2 if task[0] == "calls" else task[1])
@@ -165,7 +165,8 @@ class Cluster:
 
     def old(self):
         self.put_back()
-        os.remove(os.path.join(self.folder, "cluster"))
+        for name in ("cluster", "marks"):
+            os.remove(os.path.join(self.folder, name))
         for node in range(self.nodes):
             os.remove(self.path(node, "node"))
 

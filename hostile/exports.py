@@ -135,6 +135,8 @@ def check_unserved(rig, tally, what, folder, nodes):
             ran = rig.run(words[0], "--nodes", str(nodes), "--dir", folder, *words[1:], limit=LONG)
             holds = ran == (status, b"", first) and re.fullmatch(said, rig.why.decode())
             tally.check(holds, lambda: f"{what}: {words[0]} over an altered folder: {tell(ran)}, {rig.why!r}")
+        if os.path.exists(f"{folder}/marks"):
+            os.remove(f"{folder}/marks")
         for node in range(nodes):
             # (a mark of before, which says whose folder it is and nothing else)
             *_, place = whole = scripts.bytes_of(f"{folder}/{node}/node").split()

@@ -22,7 +22,7 @@ PLAIN = b"not a plain file"
 # What a process may take: a file without an end is read until then.
 MEMORY = 2 << 30
 AREAS = ("0/a0", "0/a1")
-FILES = (*AREAS, "0/node", "cluster", "requests")
+FILES = (*AREAS, "0/node", "cluster", "marks", "requests")
 KINDS = ("pipe", "device", "link", "dangling", "folder", "socket")
 READERS = (("verify", "."), ("export", "."), ("show", "0"))
 MIGRATE = ("migrate", "0", "--node", "0", "--nodes", "1")

@@ -1,8 +1,7 @@
 """A node's disk forgets: an area is emptied, cut or has a flipped bit, behind snapshots, at one node or at a majority of them.
 
 What was acknowledged is the model: names, each with its owner and its value. Behind the harm a cluster is refused, with a line that
-names a folder, and nothing is written; or it's served, and each answer is the model's. The same holds of folders that version 1 wrote and
-that were migrated.
+names a folder, and nothing is written; or it's served, and each answer is the model's. The same holds of folders that version 1 wrote and that were migrated, and of an older copy of one folder.
 
 Each call on the marks of a shell goes wrong too, or the process is killed at it. The next shell is never locked out, and has what was
 acknowledged.
@@ -10,6 +9,7 @@ acknowledged.
 import errno
 import os
 import shutil
+import subprocess
 
 import reading
 import scripts
@@ -29,12 +29,15 @@ MIGRATED = "migrated"
 def tasks(options):
     sizes = (1, 3) if options.short else (1, 3, 5)
     marks = [("marks", nodes, *it) for nodes in sizes[:2] for it in CALLS]
-    return [("forgetting", nodes, snapshots) for nodes in sizes for snapshots in (0, 1, 2, MIGRATED)] + (marks[::5] if options.short else marks)
+    kinds = [("forgetting", nodes, snapshots) for nodes in sizes for snapshots in (0, 1, 2, MIGRATED)]
+    return kinds + [("older", nodes) for nodes in sizes] + (marks[::5] if options.short else marks)
 
 
 def work(rig, tally, options, task):
     if task[0] == "forgetting":
         Forgetting(rig, tally, options, *task[1:]).forget()
+    elif task[0] == "older":
+        Forgetting(rig, tally, options, task[1], 1).put_back_older()
     else:
         Forgetting(rig, tally, options, task[1], 1).break_marks(*task[2:])
 
@@ -75,6 +78,7 @@ class Forgetting:
 
     def migrate(self):
         """Makes the folders such as version 1 wrote, with marks of before, and has a shell migrate them and claim one more name."""
+        os.remove(os.path.join(self.kept, "marks"))
         for node in range(self.nodes):
             for name in ("a0", "a1"):
                 path = os.path.join(self.kept, str(node), name)
@@ -158,6 +162,47 @@ class Forgetting:
             for name in self.names:
                 wanted += [f"taken {OWNER}", f"{name} bound {OWNER} v{name[1 : name.index('-')]}"]
             self.check((status, out) == (0, "".join(f"{it}\n" for it in wanted).encode()), f"{what}: status {status}, {out!r}, {err!r}")
+
+    def put_back_older(self):
+        """An older copy of one folder is told: one with older marks than the last start found, or the last end left. One of all isn't."""
+        early = self.rig.path("forgetting.early")
+        shutil.rmtree(early, ignore_errors=True)
+        shutil.copytree(self.kept, early)
+        self.claim("n1-later")
+        for node in range(self.nodes):
+            self.put_back()
+            self.outdate(node, early, "behind an end")
+            self.put_back()
+            # the second start finds what the first one wrote and puts the marks, and the third one notes these
+            for line, answer in ((b"claim k-1 z\n", b"claimed\n"), *((b"look k-1\n", b"k-1 bound 7 z\n"),) * 2):
+                self.kill_behind(line, answer)
+            self.outdate(node, self.kept, "behind a kill")
+        shutil.rmtree(self.folder)
+        shutil.copytree(early, self.folder)
+        asked = self.shell(self.folder, OWNER, [f"look {self.names[0]}", f"look {self.names[-1]}"])
+        self.check(asked == (0, f"{self.names[0]} bound {OWNER} v0\n{self.names[-1]} free\n".encode(), b""), f"an older copy of all: {asked}")
+
+    def outdate(self, node, older, when):
+        """Puts an older copy of a node's folder back: it's refused as that, and verified so."""
+        what = f"an older copy of node {node} {when}"
+        shutil.rmtree(self.path(node, ""))
+        shutil.copytree(os.path.join(older, str(node)), self.path(node, ""))
+        before = held(self.folder)
+        status, out, err = self.shell(self.folder, THIEF, [f"look {self.names[0]}"])
+        named = self.rig.why.startswith(self.path(node, "").rstrip("/").encode() + b": it is an older copy")
+        self.check((status, out) == (5, b"") and named, f"{what}: status {status}, {out!r}, {err!r}, {self.rig.why!r}")
+        self.check(held(self.folder) == before, f"{what}: something was written or made")
+        self.tally.counts["older copies of a folder"] += 1
+
+    def kill_behind(self, line, answer):
+        """Kills a shell behind the answer to a line."""
+        words = [self.rig.rr, "shell", "--nodes", str(self.nodes), "--dir", self.folder, "--client", str(OWNER)]
+        with subprocess.Popen(words, stdin=subprocess.PIPE, stdout=subprocess.PIPE, stderr=subprocess.DEVNULL, env={}) as child:
+            child.stdin.write(line)
+            child.stdin.flush()
+            got = child.stdout.readline()
+            child.kill()
+        self.check(got == answer, f"{line!r} is answered {got!r}")
 
     def break_marks(self, kind, how):
         """Each call on the marks goes wrong in a shell that claims and writes snapshots. The next one has what was acknowledged."""

@@ -313,7 +313,7 @@ def failing_device_is_told(case):
 
         def told(text, node=node):
             lines = text.decode().splitlines()
-            named = len(lines) == 2 and lines[0] == "rr: 2 Device" and re.fullmatch(f"{case.folder}/{node}/(a[01]|probe-[0-9]+): [a-z ]+: Input/output error .*", lines[1])
+            named = len(lines) == 2 and lines[0] == "rr: 2 Device" and re.fullmatch(f"{case.folder}/{node}(/a[01])?: [a-z ]+: Input/output error .*", lines[1])
             need(named, f"a failing device was told as {lines}")
 
         shell.end(status=5, said=told)

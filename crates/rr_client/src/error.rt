@@ -99,6 +99,8 @@ fn fault_text(fault: &Fault) -> &'static str {
         Fault::Altered => {
             "its newest area was altered, so the node can't know any more what it promised"
         }
+        Fault::Outdated =>
+            "it is an older copy of itself, so the node can't know any more what it promised",
     }
 }
 

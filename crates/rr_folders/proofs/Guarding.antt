@@ -13,11 +13,11 @@ use Rattle.rr_folders.specs.declared.front.Content.{Content}
 use Rattle.rr_folders.specs.declared.front.Content.TheVariants as contents
 use Rattle.rr_folders.specs.declared.judging.Found.{Found}
 use Rattle.rr_folders.specs.declared.judging.Fault.{Fault}
-use Rattle.rr_folders.specs.declared.judging.Fault.TheVariants.{OtherNode, OtherNodes, OtherCluster, Older}
+use Rattle.rr_folders.specs.declared.judging.Fault.TheVariants.{OtherNode, OtherNodes, OtherCluster, Older, Outdated}
 use Rattle.rr_folders.specs.declared.judging.Verdict.{Verdict}
 use Rattle.rr_folders.specs.declared.judging.Verdict.TheVariants.{Open, Begin, TakeOn, Refused}
-use Rattle.rr_folders.specs.Clusters.{same_identity, same_digest, reaches}
-use Rattle.rr_folders.specs.Judging.{mark_fault, owner_fault, loss_fault, unmarked_fault, ◌or_else◌, course_of, lapse_of, lapse_fault, forgetful_fault, disk_fault, fault_of, at_or, first_fault, refused_or, is_blank, is_unmarked, is_fresh, first_identity, identity_or, verdict_of, Each, HasDisk, IsMarked, IsAsFar, KeepsItsMark, KeepsItsDisk, IsFresh, Guards}
+use Rattle.rr_folders.specs.Clusters.{same_identity, same_digest, reaches, is_behind}
+use Rattle.rr_folders.specs.Judging.{mark_fault, owner_fault, loss_fault, unmarked_fault, ◌or_else◌, course_of, lapse_of, lapse_fault, forgetful_fault, lag_fault, outdated_fault, memory_fault, disk_fault, fault_of, at_or, first_fault, refused_or, is_blank, is_unmarked, is_fresh, first_identity, identity_or, verdict_of, Each, HasDisk, IsMarked, IsAsFar, IsAsNoted, IsNotBehind, KeepsItsMark, KeepsItsDisk, IsFresh, Guards}
 
 -- ---- one folder
 
@@ -91,22 +91,41 @@ as_far None active none = tt
 as_far (Some c) None none = absurd cc
 as_far (Some c) (Some r) none = (r, refl, one_reaches c r (reaches r c.from) (reaches r c.to) refl refl none)
 
+untold : (b : Bool) → cond b (Some Outdated) None ≡ None → b ≡ false
+untold true e = absurd cc
+untold false e = refl
+
+as_noted : (noted far : Option Course) → lag_fault noted far ≡ None → IsAsNoted noted far
+as_noted None far none = tt
+as_noted (Some n) None none = absurd cc
+as_noted (Some n) (Some c) none = untold (is_behind c.to n.from) none
+
+not_behind : (noted mark : Option Mark) → outdated_fault noted mark ≡ None → IsNotBehind noted mark
+not_behind None mark none = tt
+not_behind (Some n) None none = tt
+not_behind (Some n) (Some m) none = λ same. as_noted n.course m.course (subst (λ (b : Bool). cond b (lag_fault n.course m.course) None ≡ None) same none)
+
+remembers : (f : Found) → memory_fault f ≡ None → KeepsItsMark f
+remembers f none =
+    let both = neither (forgetful_fault (course_of f.mark) f.active) (outdated_fault f.noted f.mark) none in
+    (as_far (course_of f.mark) f.active both.0, not_behind f.noted f.mark both.1)
+
 keeps : (c : Cluster) (p : ℕ) (f : Found) → fault_of c.identity c.nodes (Some c.formatted) p f ≡ None → KeepsItsDisk c p f
 keeps c p f none formatted =
     let outer = neither (mark_fault c.identity p f.mark or_else owner_fault c.nodes p f.content) (disk_fault (Some c.formatted) p f) none in
     let own = neither (mark_fault c.identity p f.mark) (owner_fault c.nodes p f.content) outer.0 in
-    let all : Option Fault = (loss_fault f.content or_else unmarked_fault f.mark) or_else forgetful_fault (course_of f.mark) f.active in
+    let all : Option Fault = (loss_fault f.content or_else unmarked_fault f.mark) or_else memory_fault f in
     let asked : cond (has_member c.formatted p) all None ≡ None = outer.1 in
     let lost : all ≡ None = subst (λ (b : Bool). cond b all None ≡ None) formatted asked in
-    let apart = neither (loss_fault f.content or_else unmarked_fault f.mark) (forgetful_fault (course_of f.mark) f.active) lost in
+    let apart = neither (loss_fault f.content or_else unmarked_fault f.mark) (memory_fault f) lost in
     let kept = neither (loss_fault f.content) (unmarked_fault f.mark) apart.0 in
-    (own_disk c.nodes p f.content own.1 kept.0, own_mark c.identity p f.mark own.0 kept.1, as_far (course_of f.mark) f.active apart.1)
+    (own_disk c.nodes p f.content own.1 kept.0, own_mark c.identity p f.mark own.0 kept.1, remembers f apart.1)
 
 has : (i : Identity) (n p : ℕ) (f : Found) → fault_of i n None p f ≡ None → HasDisk n p f × KeepsItsMark f
 has i n p f none =
-    let outer = neither (mark_fault i p f.mark or_else owner_fault n p f.content) (loss_fault f.content or_else forgetful_fault (course_of f.mark) f.active) none in
-    let lost = neither (loss_fault f.content) (forgetful_fault (course_of f.mark) f.active) outer.1 in
-    (own_disk n p f.content (neither (mark_fault i p f.mark) (owner_fault n p f.content) outer.0).1 lost.0, as_far (course_of f.mark) f.active lost.1)
+    let outer = neither (mark_fault i p f.mark or_else owner_fault n p f.content) (loss_fault f.content or_else memory_fault f) none in
+    let lost = neither (loss_fault f.content) (memory_fault f) outer.1 in
+    (own_disk n p f.content (neither (mark_fault i p f.mark) (owner_fault n p f.content) outer.0).1 lost.0, remembers f lost.1)
 
 -- ---- all folders
 

@@ -1,5 +1,5 @@
 -- Clusters, and whose a folder is.
-use Rattle.std.specs.Prelude.{◌<◌, ◌≤◌, ◌^◌, ◌==◌, ◌&&◌, Bool, Option, None, Some, IfSome}
+use Rattle.std.specs.Prelude.{◌<◌, ◌≤◌, ◌^◌, ◌==◌, ◌&&◌, ◌||◌, nat_lt, Bool, Option, None, Some, IfSome}
 use Rattle.rr_types.specs.Limits.{max_nodes}
 use Rattle.rr_folders.specs.declared.cluster.Identity.{Identity}
 use Rattle.rr_folders.specs.declared.cluster.Cluster.{Cluster}
@@ -54,3 +54,7 @@ same_digest d e = (d.first == e.first) && ((d.second == e.second) && ((d.third =
 -- whether an area came as far as this: it has the epoch, so many bytes, and their digest
 abbrev pub reaches : Reached → Reached → Bool
 reaches r to = (r.epoch == to.epoch) && ((r.length == to.length) && same_digest r.digest to.digest)
+
+-- whether an area isn't as far as this: it has a lower epoch, or the same one and fewer bytes
+abbrev pub is_behind : Reached → Reached → Bool
+is_behind r to = nat_lt r.epoch to.epoch || ((r.epoch == to.epoch) && nat_lt r.length to.length)

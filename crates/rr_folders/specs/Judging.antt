@@ -11,10 +11,10 @@ use Rattle.rr_folders.specs.declared.front.Content.{Content}
 use Rattle.rr_folders.specs.declared.front.Content.TheVariants as contents
 use Rattle.rr_folders.specs.declared.judging.Found.{Found}
 use Rattle.rr_folders.specs.declared.judging.Fault.{Fault}
-use Rattle.rr_folders.specs.declared.judging.Fault.TheVariants.{Missing, Blank, Cut, OtherNode, OtherNodes, OtherCluster, Unmarked, Older, Shorter, Altered}
+use Rattle.rr_folders.specs.declared.judging.Fault.TheVariants.{Missing, Blank, Cut, OtherNode, OtherNodes, OtherCluster, Unmarked, Older, Shorter, Altered, Outdated}
 use Rattle.rr_folders.specs.declared.judging.Verdict.{Verdict}
 use Rattle.rr_folders.specs.declared.judging.Verdict.TheVariants.{Open, Begin, TakeOn, Refused}
-use Rattle.rr_folders.specs.Clusters.{same_identity, reaches}
+use Rattle.rr_folders.specs.Clusters.{same_identity, reaches, is_behind}
 
 -- ---- one folder
 
@@ -67,10 +67,26 @@ forgetful_fault None active = None
 forgetful_fault (Some c) None = Some Older
 forgetful_fault (Some c) (Some r) = lapse_fault c r
 
+-- what a mark has against it of which it was noted once how far it says that the disk came: it isn't as far any more
+abbrev pub lag_fault : Option Course → Option Course → Option Fault
+lag_fault None far = None
+lag_fault (Some n) None = Some Outdated
+lag_fault (Some n) (Some c) = if is_behind c.to n.from then Some Outdated else None
+
+-- that a folder is older than what was noted of it: its mark is behind the one that was noted of the same cluster
+abbrev pub outdated_fault : Option Mark → Option Mark → Option Fault
+outdated_fault None mark = None
+outdated_fault (Some n) None = None
+outdated_fault (Some n) (Some m) = if same_identity n.identity m.identity then lag_fault n.course m.course else None
+
+-- that a node forgot something, by its folder's mark or by what was noted of that
+abbrev pub memory_fault : Found → Option Fault
+memory_fault f = forgetful_fault (course_of f.mark) f.active or_else outdated_fault f.noted f.mark
+
 -- what is lost of a node: nothing while it is being formatted. Without a cluster's file, each node counts as formatted
 abbrev pub disk_fault : Option ℕ → ℕ → Found → Option Fault
-disk_fault None p f = loss_fault f.content or_else forgetful_fault (course_of f.mark) f.active
-disk_fault (Some formatted) p f = if has_member formatted p then ((loss_fault f.content or_else unmarked_fault f.mark) or_else forgetful_fault (course_of f.mark) f.active) else None
+disk_fault None p f = loss_fault f.content or_else memory_fault f
+disk_fault (Some formatted) p f = if has_member formatted p then ((loss_fault f.content or_else unmarked_fault f.mark) or_else memory_fault f) else None
 
 -- what is wrong with the folder of node p of n
 abbrev pub fault_of : Identity → ℕ → Option ℕ → ℕ → Found → Option Fault
@@ -161,9 +177,21 @@ abbrev pub IsAsFar : Option Course → Option Reached → Type 0
 IsAsFar None active = Unit {0}
 IsAsFar (Some c) active = (r : Reached) × (active ≡ Some r) × ((r ≡ c.from) ⊎ (r ≡ c.to))
 
--- a folder whose active area came as far as its mark says
+-- a mark that says how far a disk came is as far as was noted
+abbrev pub IsAsNoted : Option Course → Option Course → Type 0
+IsAsNoted None far = Unit {0}
+IsAsNoted (Some n) None = ⊥
+IsAsNoted (Some n) (Some c) = is_behind c.to n.from ≡ false
+
+-- a mark isn't behind the one that was noted of the same cluster
+abbrev pub IsNotBehind : Option Mark → Option Mark → Type 0
+IsNotBehind None mark = Unit {0}
+IsNotBehind (Some n) None = Unit {0}
+IsNotBehind (Some n) (Some m) = same_identity n.identity m.identity ≡ true → IsAsNoted n.course m.course
+
+-- a folder whose active area came as far as its mark says, and whose mark came as far as was noted
 abbrev pub KeepsItsMark : Found → Type 0
-KeepsItsMark f = IsAsFar (course_of f.mark) f.active
+KeepsItsMark f = IsAsFar (course_of f.mark) f.active × IsNotBehind f.noted f.mark
 
 -- a node that has been formatted has its disk, its folder bears its mark, and the disk came as far as that says
 abbrev pub KeepsItsDisk : Cluster → ℕ → Found → Type 0

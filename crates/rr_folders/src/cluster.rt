@@ -1,7 +1,7 @@
 //! Clusters, and whose a folder is.
 
 ghost use Rattle.std.specs.Prelude.{◌≡◌};
-ghost use Rattle.rr_folders.specs.Clusters.{same_identity, same_digest, reaches};
+ghost use Rattle.rr_folders.specs.Clusters.{same_identity, same_digest, reaches, is_behind};
 
 use rr_types::{NodeId, NodeSet, Nodes};
 
@@ -76,6 +76,13 @@ impl Reached {
         ensures { result ≡ reaches self other }
     {
         self.epoch == other.epoch && self.length == other.length && self.digest.is(other.digest)
+    }
+
+    /// Whether it isn't as far as this: it has a lower epoch, or the same one and fewer bytes.
+    pub fn is_behind(self, other: Reached) -> bool
+        ensures { result ≡ is_behind self other }
+    {
+        self.epoch < other.epoch || (self.epoch == other.epoch && self.length < other.length)
     }
 }
 

@@ -11,6 +11,7 @@ use crate::judging::{Verdict, judge};
 use crate::lock::{Lockable, Locks};
 use crate::mark_file::FolderMark;
 use crate::marked::MarkedDisk;
+use crate::noted::{note_marks, noted_in, noted_of};
 use crate::plain::see_requests;
 use crate::seen::{Seen, cluster_in, is_there, look_at, look_over};
 use crate::tip::Tip;
@@ -129,12 +130,14 @@ fn look_in<
     let mut seen = Vec::new(rt.alloc());
     let mut known = Vec::new(rt.alloc());
     let mut found = Vec::new(rt.alloc());
+    let noted = noted_in(rt, dir)?;
     for node in 0..nodes.count() {
         let path = format!(in rt.alloc(); "{dir}/{node}")?;
         if is_there(rt, path.as_str())? {
             locks.add(rt, path.as_str())?;
         }
-        let (look, tip) = look_at(rt, &locks, path.as_str())?;
+        let (mut look, tip) = look_at(rt, &locks, path.as_str())?;
+        look.found.noted = noted_of(noted.as_slice(), node);
         found.push(look.found)?;
         seen.push(look)?;
         known.push(tip)?;
@@ -185,9 +188,11 @@ pub fn judge_folders<R: Files + AllocGlobal>(
     dir: &str,
 ) -> Result<Verdict, Closed> {
     let mut found = Vec::new(rt.alloc());
+    let noted = noted_in(rt, dir)?;
     for node in 0..nodes.count() {
         let path = format!(in rt.alloc(); "{dir}/{node}")?;
-        let (look, _) = look_over(rt, path.as_str())?;
+        let (mut look, _) = look_over(rt, path.as_str())?;
+        look.found.noted = noted_of(noted.as_slice(), node);
         found.push(look.found)?;
     }
     let cluster = cluster_in(rt, dir)?;
@@ -204,7 +209,7 @@ fn open_marked<
     let Some(mark) = seen.found.mark else {
         return Ok(None);
     };
-    let keeper = FolderMark::new(rt, folder, mark.identity, mark.node)?;
+    let keeper = FolderMark::new(rt, folder, mark.identity, mark.node, None)?;
     match FileDisk::open(rt, folder, false) {
         Ok(disk) => Ok(Some(MarkedDisk::new(disk, keeper, mark.course, known))),
         Err(refusal) => Err(Closed::Unopened(mark.node, refusal)),
@@ -282,6 +287,8 @@ pub fn enter<
         let _ = conclude(rt, dir, &cluster, &survey)?;
     }
     sync_names(rt, dir)?;
+    // (where they can't be noted, what was noted before holds on)
+    let _ = note_marks(rt, dir, nodes);
     Ok(Folders {
         locks: survey.into_locks(),
         disks,

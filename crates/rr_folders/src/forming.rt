@@ -3,24 +3,27 @@
 
 ghost use Rattle.std.specs.Prelude.{◌≡◌, ◌<◌, length, IfOk};
 
-use crate::closed::{Closed, done};
+use crate::closed::{Closed, done, failed};
 use crate::cluster::{Cluster, Course, Identity, Mark};
 use crate::folder::{NodeDisk, Survey, remove_made};
 use crate::front::AreaFront;
 use crate::lock::{Lockable, Locks};
 use crate::mark_file::FolderMark;
 use crate::marked::MarkedDisk;
+use crate::noted::Noter;
 use crate::plain::make_fresh;
 use crate::seen::{Seen, course_of, is_there};
 use crate::tip::Tip;
 use rr_disk::{FileDisk, OpenedFile, make_folder};
 use rr_journal::Journal;
 use rr_types::{NodeId, NodeSet, Nodes, Refusal};
+use std::alloc::Global;
 use std::fs;
 use std::fs::{OpenFile, OpenOptions};
 use std::io::{Read, Seek, Write};
 use std::os::unix::fs::FileExt;
 use std::rt::Files;
+use std::sync::Arc;
 
 /// Draws the identity of a new cluster from the system's random device.
 pub(crate) fn draw_identity<R: Files + AllocGlobal>(rt: &R) -> Result<Identity, Closed> {
@@ -152,12 +155,22 @@ pub fn try_folder<R: Files + AllocGlobal>(rt: &R, folder: &str) -> Result<(), Cl
             options.open(rt, path.as_str()),
         )?;
     }
-    // The number is drawn, so that no file of anybody's has this name.
+    try_file(rt, folder)
+}
+
+// Writes and syncs a file in a folder, and takes it away. The folder is named where a call fails.
+fn try_file<R: Files + AllocGlobal>(rt: &R, folder: &str) -> Result<(), Closed> {
+    // (the number is drawn, so that no file of anybody's has this name)
     let drawn = draw_identity(rt)?.first;
     let probe = format!(in rt.alloc(); "{folder}/probe-{drawn}")?;
-    write_fresh(rt, probe.as_str(), &[0u8; 4096])?;
-    let _ = fs::remove_file(rt, probe.as_str());
-    Ok(())
+    match write_fresh(rt, probe.as_str(), &[0u8; 4096]) {
+        Ok(()) => {
+            let _ = fs::remove_file(rt, probe.as_str());
+            Ok(())
+        }
+        Err(Closed::Failed { call, error, .. }) => Err(failed(rt, folder, call, error)),
+        Err(closed) => Err(closed),
+    }
 }
 
 // Formats a disk that was opened in a folder, unless it is formatted.
@@ -227,6 +240,7 @@ fn open_node<
     cluster: &Cluster,
     node: NodeId,
     survey: &mut Survey<F>,
+    noter: Arc<Noter, Global>,
 ) -> Result<NodeDisk<'x, F, R>, Closed>
     requires { node < nodes }
 {
@@ -239,7 +253,7 @@ fn open_node<
             form_folder(rt, dir, cluster.identity, node, &seen, &mut survey.locks)?;
         }
     }
-    let keeper = FolderMark::new(rt, folder.as_str(), cluster.identity, node)?;
+    let keeper = FolderMark::new(rt, folder.as_str(), cluster.identity, node, Some(noter))?;
     match FileDisk::open(rt, folder.as_str(), true) {
         Ok(disk) if is_formatted => {
             let (course, known) = course_in(survey, index);
@@ -267,12 +281,14 @@ pub(crate) fn open_disks<
 ) -> Result<Vec<NodeDisk<'x, F, R>>, Closed>
     ensures { IfOk result (λ v. length v.items ≡ nodes) }
 {
+    let noter = Arc::new(rt.alloc(), Noter::new(rt, dir, nodes)?)?;
     let mut disks = Vec::new(rt.alloc());
     for index in 0..nodes.count() {
         let Some(node) = NodeId::new(nodes, index) else {
             unreachable!()
         };
-        disks.push(open_node(rt, nodes, dir, cluster, node, survey)?)?;
+        let noter = Arc::try_clone(&noter)?;
+        disks.push(open_node(rt, nodes, dir, cluster, node, survey, noter)?)?;
     }
     Ok(disks)
 }

@@ -3,7 +3,7 @@
 ghost use Rattle.std.specs.Prelude.{◌≡◌, ◌+◌, ◌≤◌, ◌<◌, length, option_map, Option, Some, None};
 ghost use Rattle.std.specs.List.{list_all};
 ghost use Rattle.rr_types.specs.Limits.{max_nodes};
-ghost use Rattle.rr_folders.specs.Judging.{mark_fault, owner_fault, loss_fault, course_of, lapse_of, lapse_fault, forgetful_fault, disk_fault, fault_of, first_fault, is_blank, is_fresh, first_identity, verdict_by_file, verdict_by_folders, verdict_of, Guards};
+ghost use Rattle.rr_folders.specs.Judging.{mark_fault, owner_fault, loss_fault, course_of, lapse_of, lapse_fault, forgetful_fault, lag_fault, outdated_fault, memory_fault, disk_fault, fault_of, first_fault, is_blank, is_fresh, first_identity, verdict_by_file, verdict_by_folders, verdict_of, Guards};
 
 use crate::cluster::{Cluster, Course, Digest, Identity, Mark, Reached};
 use crate::front::Content;
@@ -18,6 +18,8 @@ pub struct Found {
     pub mark: Option<Mark>,
     /// How far its active area came, looked at as far as the mark says of that epoch. None: no area is active.
     pub active: Option<Reached>,
+    /// What was noted last of the folder's mark, outside the folder. None: nothing.
+    pub noted: Option<Mark>,
 }
 
 /// Why the folder of a node may not be opened.
@@ -43,6 +45,8 @@ pub enum Fault {
     Shorter,
     /// The active area has other bytes than the node has marked.
     Altered,
+    /// The node's mark isn't as far as it was noted to be once: the folder is an older copy.
+    Outdated,
 }
 
 /// What is to be done with folders.
@@ -162,6 +166,41 @@ fn forgetful_fault(course: Option<Course>, active: Option<Reached>) -> Option<Fa
     }
 }
 
+// What a mark has against it of which it was noted once how far it says that the disk came.
+fn lag_fault(noted: Option<Course>, course: Option<Course>) -> Option<Fault>
+    ensures { result ≡ lag_fault noted course }
+{
+    let noted = noted?;
+    match course {
+        Some(course) if !course.to.is_behind(noted.from) => None,
+        _ => Some(Fault::Outdated),
+    }
+}
+
+// That a folder is older than what was noted of it.
+fn outdated_fault(noted: Option<Mark>, mark: Option<Mark>) -> Option<Fault>
+    ensures { result ≡ outdated_fault noted mark }
+{
+    let noted = noted?;
+    let mark = mark?;
+    if noted.identity.is(mark.identity) {
+        lag_fault(noted.course, mark.course)
+    } else {
+        None
+    }
+}
+
+// That a node forgot something.
+fn memory_fault(found: &Found) -> Option<Fault>
+    ensures { result ≡ memory_fault found.now }
+{
+    made_of!(Mark, Course, Reached, Digest, Identity);
+    match forgetful_fault(course_of(found.mark), found.active) {
+        Some(fault) => Some(fault),
+        None => outdated_fault(found.noted, found.mark),
+    }
+}
+
 // What is lost of a node.
 fn disk_fault(formatted: Option<NodeSet>, node: NodeId, found: &Found) -> Option<Fault>
     ensures { result ≡ disk_fault formatted node found.now }
@@ -177,7 +216,7 @@ fn disk_fault(formatted: Option<NodeSet>, node: NodeId, found: &Found) -> Option
     } else if is_unmarked {
         Some(Fault::Unmarked)
     } else {
-        forgetful_fault(course_of(found.mark), found.active)
+        memory_fault(found)
     }
 }
 

@@ -40,6 +40,7 @@ mod judging;
 mod lock;
 mod mark_file;
 mod marked;
+mod noted;
 mod number_file;
 mod plain;
 mod reading;

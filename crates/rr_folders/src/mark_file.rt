@@ -5,9 +5,11 @@ ghost use Rattle.std.specs.Prelude.{is_ok, Bool};
 use crate::closed::Closed;
 use crate::cluster::{Course, Identity, Mark};
 use crate::forming::{put_in_place, write_fresh};
+use crate::noted::Noter;
 use rr_types::{NodeId, Refusal};
-use std::alloc::AllocError;
+use std::alloc::{AllocError, Global};
 use std::rt::Files;
+use std::sync::Arc;
 
 /// Where it is kept how far a node's disk came.
 pub trait MarkKeeper {
@@ -25,23 +27,24 @@ pub trait MarkKeeper {
 }
 
 /// The file `node` of a node's folder. No contract knows what it holds.
-#[derive(Drop)]
-pub struct FolderMark<'x, R: Files> {
+pub struct FolderMark<'x, R: Files + AllocGlobal> {
     rt: &'x R,
     folder: String,
     path: String,
     fresh: String,
     identity: Identity,
     node: NodeId,
+    noter: Option<Arc<Noter, Global>>,
 }
 
 impl<'x, R: Files + AllocGlobal> FolderMark<'x, R> {
-    /// That of the folder of a node of this cluster.
+    /// That of the folder of a node of this cluster. Where there is a noter, it is told when the disk is let go.
     pub(crate) fn new(
         rt: &'x R,
         folder: &str,
         identity: Identity,
         node: NodeId,
+        noter: Option<Arc<Noter, Global>>,
     ) -> Result<FolderMark<'x, R>, AllocError> {
         Ok(FolderMark {
             rt,
@@ -50,6 +53,7 @@ impl<'x, R: Files + AllocGlobal> FolderMark<'x, R> {
             fresh: format!(in rt.alloc(); "{folder}/node.new")?,
             identity,
             node,
+            noter,
         })
     }
 
@@ -80,5 +84,22 @@ impl<'x, R: Files + AllocGlobal> MarkKeeper for FolderMark<'x, R> {
             Err(Closed::OutOfMemory) => Err(Refusal::OutOfMemory),
             Err(_) => Err(Refusal::Device),
         }
+    }
+}
+
+impl<'x, R: Files + AllocGlobal> Drop for FolderMark<'x, R> {
+    fn drop(self) {
+        if let Some(noter) = &self.noter {
+            noter.let_go(self.rt);
+        }
+        let FolderMark {
+            rt: _,
+            folder: _,
+            path: _,
+            fresh: _,
+            identity: _,
+            node: _,
+            noter: _,
+        } = self;
     }
 }

@@ -39,8 +39,11 @@ pub(crate) fn is_there<R: Files + AllocGlobal>(rt: &R, path: &str) -> Result<boo
     }
 }
 
-// The bytes of a file; none where it is missing.
-fn bytes_of<R: Files + AllocGlobal>(rt: &R, path: &str) -> Result<Option<Vec<u8>>, Closed> {
+/// The bytes of a file; none where it is missing.
+pub(crate) fn bytes_of<R: Files + AllocGlobal>(
+    rt: &R,
+    path: &str,
+) -> Result<Option<Vec<u8>>, Closed> {
     if !is_plain(rt, path)? {
         return Ok(None);
     }
@@ -80,6 +83,17 @@ fn hashed<R: Files + AllocGlobal>(
     done(rt, path, "reading", file.read_exact(&mut room[..rest]))?;
     hasher.update(&room[..rest]);
     Ok(Some(hasher))
+}
+
+/// The mark of a node's folder.
+pub(crate) fn mark_in<R: Files + AllocGlobal>(
+    rt: &R,
+    folder: &str,
+) -> Result<Option<Mark>, Closed> {
+    match bytes_of(rt, format!(in rt.alloc(); "{folder}/node")?.as_str())? {
+        Some(bytes) => Ok(Mark::parse(bytes.as_slice())),
+        None => Ok(None),
+    }
 }
 
 /// How far a mark says that a disk came.
@@ -173,6 +187,7 @@ pub(crate) fn look_over<R: Files + AllocGlobal>(
             content: content_of(first, second),
             mark,
             active,
+            noted: None,
         },
         first,
         second,
@@ -189,6 +204,7 @@ fn nothing_seen() -> Seen {
             content: Content::Absent,
             mark: None,
             active: None,
+            noted: None,
         },
         first: AreaFront::Missing,
         second: AreaFront::Missing,

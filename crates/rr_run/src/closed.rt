@@ -138,7 +138,11 @@ fn print_refused<R: Files + AllocGlobal, W: Write>(
             err,
             "{dir}/{path}: the newest area of its disk has other bytes than its file node says, and "
         )?,
-        Fault::OtherNode(_) | Fault::OtherNodes(_) | Fault::OtherCluster | Fault::Unmarked => {
+        Fault::Outdated
+        | Fault::OtherNode(_)
+        | Fault::OtherNodes(_)
+        | Fault::OtherCluster
+        | Fault::Unmarked => {
             return print_other(err, dir, nodes, node, fault);
         }
     }
@@ -148,7 +152,7 @@ fn print_refused<R: Files + AllocGlobal, W: Write>(
     )
 }
 
-// Prints whose folder it is, where it is another's.
+// Prints whose folder it is, where it is another's, or of which moment.
 fn print_other<W: Write>(
     err: &mut W,
     dir: &str,
@@ -172,6 +176,10 @@ fn print_other<W: Write>(
                 "{dir}: its cluster has another number of nodes than {asked}; ask for --nodes {others}"
             )
         }
+        Fault::Outdated => writeln!(
+            err,
+            "{dir}/{path}: it is an older copy, as its file node isn't as far as {dir}/marks says; put back the folder as it was last, or all of {dir} from one backup"
+        ),
         Fault::OtherCluster => writeln!(
             err,
             "{dir}/{path}: it is a folder of another cluster; put that of this one back"
