@@ -1,7 +1,8 @@
 """A node's disk forgets: an area is emptied, cut or has a flipped bit, behind snapshots, at one node or at a majority of them.
 
 What was acknowledged is the model: names, each with its owner and its value. Behind the harm a cluster is refused, with a line that
-names a folder, and nothing is written; or it's served, and each answer is the model's. The same holds of folders that version 1 wrote and that were migrated, and of an older copy of one folder.
+names a folder, and nothing is written; or it's served, and each answer is the model's. What is refused `rr verify` doesn't call agreeing.
+The same holds of folders that version 1 wrote and that were migrated, and of an older copy of one folder.
 
 Each call on the marks of a shell goes wrong too, or the process is killed at it. The next shell is never locked out, and has what was
 acknowledged.
@@ -146,6 +147,7 @@ class Forgetting:
 
     def told_or_right(self, what, nodes):
         before = held(self.folder)
+        verified = self.rig.run("verify", self.folder)[:2]
         lines = [f"at {nodes[0]}"] + [f"{word} {name}" for name in self.names for word in ("claim", "look")]
         status, out, err = self.shell(self.folder, THIEF, lines)
         self.tally.counts["disks that forget"] += 1
@@ -156,6 +158,7 @@ class Forgetting:
             requests = os.path.join(self.folder, "requests") if status == 4 else None
             left, before = ({path: it for path, it in all.items() if path != requests} for all in (held(self.folder), before))
             self.check(left == before, f"{what}: something was written or made")
+            self.check(verified[0] == 4 and verified[1].endswith(b"\ndisagree\n"), f"{what}: it's refused, and verified with {verified}")
             self.tally.counts["disks that forget, told"] += 1
         else:
             wanted = [f"at {nodes[0]}"]
@@ -188,6 +191,8 @@ class Forgetting:
         shutil.rmtree(self.path(node, ""))
         shutil.copytree(os.path.join(older, str(node)), self.path(node, ""))
         before = held(self.folder)
+        verified = self.rig.run("verify", self.folder)[:2]
+        self.check(verified[0] == 4 and verified[1].endswith(b"\ndisagree\n"), f"{what}: verified with {verified}")
         status, out, err = self.shell(self.folder, THIEF, [f"look {self.names[0]}"])
         named = self.rig.why.startswith(self.path(node, "").rstrip("/").encode() + b": it is an older copy")
         self.check((status, out) == (5, b"") and named, f"{what}: status {status}, {out!r}, {err!r}, {self.rig.why!r}")

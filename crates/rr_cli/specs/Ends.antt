@@ -37,6 +37,7 @@ use Rattle.rr_cli.specs.Finishing.{finished_by, IsFinishedDraw}
 use Rattle.rr_words.specs.Tasks.{CutWords, RandomWords, ShellWords, View, Task, Simulate, Viewing, Show, Random, Audit, Run, Shell, Sweep, Draw, Migrate, Verify, Export}
 use Rattle.rr_words.specs.declared.tasks.Form.{Form}
 use Rattle.rr_words.specs.declared.tasks.Form.TheVariants.{Plain, Json}
+use Rattle.rr_folders.specs.Judged.{MayStart}
 use Rattle.rr_folders.specs.declared.verify_folder.Reading as folder
 use Rattle.rr_folders.specs.Agreement.{Agree, AllAlike, HaveOneList, clashes_from, longest_decided}
 use Rattle.rr_folders.specs.Texts.{verdict_text}
@@ -233,17 +234,22 @@ pub data EndsOnCut (On : (List ℕ → ℕ → Printing → Printing → Type 0)
   cut_so : (cut : Cut) → IsCutBy words cut → On (EndsOnDrawn words.tape words.html cut) status old new → EndsOnCut On words status old new
   uncut : ((cut : Cut) → IsCutBy words cut → ⊥) → status ≡ 2 → new ≡ old → EndsOnCut On words status old new
 
--- what was read of folders is printed: they agree, and then what they have decided are beginnings of one list; or they don't;
--- or memory was wanting, or a program runs the cluster, and standard output is as it was
-pub data EndsOnVerification (form : Form) (status : ℕ) (old new : Printing) : Type 0 where
-  verified : (readings : List folder.Reading) → AreRead readings → Agree readings → HaveOneList readings
+-- what was read of folders is printed, over which a start would be refused or not: they agree and it wouldn't, and then what they have
+-- decided are beginnings of one list; or they don't, or it would; or memory was wanting, or a program runs the cluster, and standard
+-- output is as it was
+pub data EndsOnVerification (form : Form) (refused : Bool) (status : ℕ) (old new : Printing) : Type 0 where
+  verified : (readings : List folder.Reading) → AreRead readings → Agree readings → HaveOneList readings → MayStart (length readings)
       → Prints (verdict_text (form_in form) readings (clashes_from 0 readings) true) status old new
-      → EndsOnVerification form status old new
-  differing : (readings : List folder.Reading) (printing : ℕ) → AreRead readings → (Agree readings → ⊥)
+      → EndsOnVerification form refused status old new
+  differing : (readings : List folder.Reading) (printing : ℕ) → AreRead readings → (Agree readings × (refused ≡ false) → ⊥)
       → Prints (verdict_text (form_in form) readings (clashes_from 0 readings) false) printing old new
-      → status ≡ unlike printing → EndsOnVerification form status old new
-  unverified : status ≡ 6 → new ≡ old → EndsOnVerification form status old new
-  unlocked : IsStreamStatus status → new ≡ old → EndsOnVerification form status old new
+      → status ≡ unlike printing → EndsOnVerification form refused status old new
+  unverified : status ≡ 6 → new ≡ old → EndsOnVerification form refused status old new
+  unlocked : IsStreamStatus status → new ≡ old → EndsOnVerification form refused status old new
+
+-- the same, whether a start would be refused or not
+abbrev pub EndsOnVerified : Form → ℕ → Printing → Printing → Type 0
+EndsOnVerified form status old new = (refused : Bool) × EndsOnVerification form refused status old new
 
 -- the export of folders: no two decide an instance differently, and that of the longest decided list is printed; or two do; or
 -- none holds facts and one is refused; or memory was wanting, or a program runs the cluster. Unless it is printed, standard output is as
@@ -328,7 +334,7 @@ pub data EndsBy (faults : Kinds) (task : Task) (from to : Readable) (status : �
       → EndsOnSeat folder of_node of_nodes status old new
       → EndsBy faults task from to status old new
   by_verification : (dir : Option Text) (form : Form) → faults ≡ [] → task ≡ Verify dir form
-      → EndsOnDir (EndsOnVerification form) dir status old new
+      → EndsOnDir (EndsOnVerified form) dir status old new
       → EndsBy faults task from to status old new
   by_export : (dir : Option Text) (list : Bool) → faults ≡ [] → task ≡ Export dir list
       → EndsOnDir (EndsOnExport list) dir status old new

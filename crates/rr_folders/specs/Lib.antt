@@ -1,3 +1,4 @@
+pub mod Judged
 pub mod Marks
 pub mod NumberCalls
 pub mod Requests

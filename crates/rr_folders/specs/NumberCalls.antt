@@ -1,5 +1,5 @@
 -- What a reservation of request numbers asks of the file that holds the first number that is not reserved.
-use Rattle.std.specs.Prelude.{◌≡◌, ℕ, ◌+◌, ◌^◌, ◌≤◌, max, ◌⊎◌, Bool, true, false, List, [], ◌∷◌, ◌++◌, Option, None, Some, Result, Ok, Err, Vec, decimal}
+use Rattle.std.specs.Prelude.{◌≡◌, ℕ, ◌+◌, ◌^◌, ◌≤◌, max, ◌⊎◌, nat_le, Bool, true, false, List, [], ◌∷◌, ◌++◌, Option, None, Some, Result, Ok, Err, Vec, decimal}
 use Rattle.std.specs.declared.alloc.Global.{Global}
 use Rattle.rr_types.specs.declared.refusal.Refusal.{Refusal}
 use Rattle.rr_types.specs.declared.refusal.Refusal.TheVariants.{OutOfMemory, Malformed, TooLarge, Device}
@@ -26,6 +26,11 @@ found_by (Err e) = None
 abbrev pub free_by : Option (List ℕ) → Option ℕ
 free_by None = Some 0
 free_by (Some bytes) = stored_number bytes
+
+-- whether no block can be had, by the first number that is not reserved
+abbrev pub has_no_block : Option ℕ → Bool
+has_no_block None = true
+has_no_block (Some first) = nat_le (2 ^ 64) (first + 1048576)
 
 -- what the file holds when the numbers below this one are reserved
 abbrev pub number_text : ℕ → List ℕ

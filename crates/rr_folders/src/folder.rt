@@ -2,6 +2,7 @@
 
 ghost use Rattle.std.specs.Prelude.{◌≡◌, ◌⊎◌, length, Contains, IfOk, IfErr};
 ghost use Rattle.rr_types.specs.declared.refusal.Refusal.TheVariants.{Device, OutOfMemory};
+ghost use Rattle.rr_folders.specs.Judged.{IsJudged};
 
 use crate::closed::{Closed, done};
 use crate::cluster::Cluster;
@@ -186,7 +187,9 @@ pub fn judge_folders<R: Files + AllocGlobal>(
     rt: &R,
     nodes: Nodes,
     dir: &str,
-) -> Result<Verdict, Closed> {
+) -> Result<Verdict, Closed>
+    ensures { IfOk result (IsJudged nodes) }
+{
     let mut found = Vec::new(rt.alloc());
     let noted = noted_in(rt, dir)?;
     for node in 0..nodes.count() {

@@ -35,7 +35,7 @@ impl Model for Block {
 
 impl Block {
     // The block that begins with this number, unless numbers are out.
-    fn from(first: u64) -> Option<Block>
+    pub(crate) fn from(first: u64) -> Option<Block>
         ensures some { IfSome result (λ b. (b.next ≡ first) × (b.end ≡ first + 1048576)) }
         ensures none { result ≡ None → 2 ^ 64 ≤ first + 1048576 }
     {
@@ -145,7 +145,7 @@ fn number_text(alloc: Global, stored: u64) -> Result<Vec<u8>, Refusal>
 }
 
 // The first number that is not reserved, by what a read found.
-fn free_by(found: &Option<Vec<u8>>) -> Option<u64>
+pub(crate) fn free_by(found: &Option<Vec<u8>>) -> Option<u64>
     ensures { result ≡ free_by (bytes_of found.now) }
 {
     match found {

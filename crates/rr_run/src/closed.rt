@@ -4,7 +4,7 @@ ghost use Rattle.rr_journal.specs.Image.{found};
 ghost use Rattle.rr_run.specs.Closings.{may_be_damaged, IsRefusalOf, IsClosedBy, IsRefusedFor};
 
 use rr_cli::{end_by_refusal, print_folder_fault};
-use rr_folders::{Closed, Fault, print_closed};
+use rr_folders::{Closed, Fault, print_closed, print_fault};
 use rr_journal::read_image;
 use rr_types::{NodeId, Nodes, Refusal};
 use std::alloc::Global;
@@ -107,7 +107,7 @@ fn print_unopened<R: Files + AllocGlobal, W: Write>(
     print_folder_fault(rt, err, path.as_str(), refusal)
 }
 
-// Prints why a node's folder may not be opened.
+// Prints why a node's folder may not be opened. Where an opening finds damage, that is told.
 fn print_refused<R: Files + AllocGlobal, W: Write>(
     rt: &R,
     err: &mut W,
@@ -117,76 +117,11 @@ fn print_refused<R: Files + AllocGlobal, W: Write>(
     fault: &Fault,
     refusal: &Refusal,
 ) -> io::Result<()> {
-    let path = node.index();
     match fault {
-        Fault::Missing => write!(err, "{dir}/{path}: the folder is gone, and ")?,
-        Fault::Blank => write!(err, "{dir}/{path}: its disk is blank, and ")?,
         Fault::Cut | Fault::Older | Fault::Shorter | Fault::Altered
             if !matches!(refusal, Refusal::Device) => {
-            return print_unopened(rt, err, dir, node, refusal);
+            print_unopened(rt, err, dir, node, refusal)
         }
-        Fault::Cut => write!(err, "{dir}/{path}: a file of its disk is gone or cut, and ")?,
-        Fault::Older => write!(
-            err,
-            "{dir}/{path}: the newest area of its disk isn't the one that its file node names, and "
-        )?,
-        Fault::Shorter => write!(
-            err,
-            "{dir}/{path}: the newest area of its disk is shorter than its file node says, and "
-        )?,
-        Fault::Altered => write!(
-            err,
-            "{dir}/{path}: the newest area of its disk has other bytes than its file node says, and "
-        )?,
-        Fault::Outdated
-        | Fault::OtherNode(_)
-        | Fault::OtherNodes(_)
-        | Fault::OtherCluster
-        | Fault::Unmarked => {
-            return print_other(err, dir, nodes, node, fault);
-        }
-    }
-    writeln!(
-        err,
-        "node {path} can't know any more what it promised; put the folder back as it was last, or go on from the others by rr export"
-    )
-}
-
-// Prints whose folder it is, where it is another's, or of which moment.
-fn print_other<W: Write>(
-    err: &mut W,
-    dir: &str,
-    nodes: Nodes,
-    node: NodeId,
-    fault: &Fault,
-) -> io::Result<()> {
-    let (path, asked) = (node.index(), nodes.count());
-    match fault {
-        Fault::OtherNode(other) => {
-            let other = other.index();
-            writeln!(
-                err,
-                "{dir}/{path}: it is the folder of node {other}; put each folder back in its place"
-            )
-        }
-        Fault::OtherNodes(others) => {
-            let others = others.count();
-            writeln!(
-                err,
-                "{dir}: its cluster has another number of nodes than {asked}; ask for --nodes {others}"
-            )
-        }
-        Fault::Outdated => writeln!(
-            err,
-            "{dir}/{path}: it is an older copy, as its file node isn't as far as {dir}/marks says; put back the folder as it was last, or all of {dir} from one backup"
-        ),
-        Fault::OtherCluster => writeln!(
-            err,
-            "{dir}/{path}: it is a folder of another cluster; put that of this one back"
-        ),
-        _ => writeln!(
-            err,
-            "{dir}/{path}: no cluster has marked it; put the folder of this one back"
-        ),
+        _ => print_fault(err, dir, nodes, node, fault),
     }
 }
