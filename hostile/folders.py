@@ -256,9 +256,11 @@ class Folder:
                     os.link(self.at("stranger"), self.at(name))
                 else:
                     self.put(kind, name)
-                got = self.shell("look kept")
+                # (numbers are reserved at the first sync or submit, and a look reserves none)
+                got = self.shell("look kept", *(["sync"] if name == "requests.new" else []))
                 if kind == "left":
-                    self.check(got == (0, b"kept bound 0 x\n", b""), f"{name} was left: {got}")
+                    wanted = b"kept bound 0 x\n" + (b"synced\n" if name == "requests.new" else b"")
+                    self.check(got == (0, wanted, b""), f"{name} was left: {got}")
                 else:
                     self.check(got[0] == 5, f"{name} is a {kind}: {got}")
                 with open(self.at("stranger"), "rb") as file:

@@ -53,6 +53,10 @@ module _ {F : Type 0} (gives : F → NumberCall → F → Type 0) where
     none : (file : F) → IsAsked [] file file
     then : (call : NumberCall) (calls : List NumberCall) (old mid new : F) → gives old call mid → IsAsked calls mid new → IsAsked (call ∷ calls) old new
 
+  -- the file was read, and nothing else was asked of it: no block can be had, or one can
+  abbrev pub Sees : Bool → F → F → Type 0
+  Sees lacks old new = (found : Option (List ℕ)) × gives old (reads found true) new × (has_no_block (free_by found) ≡ lacks)
+
   -- a block is reserved: it begins at the first number that is free, or at a greater one that was asked for, and the file says so before it is given
   pub data Reserves (least : ℕ) (block : Reserved) (old new : F) : Type 0 where
     reserves : (found : Option (List ℕ)) (first : ℕ) → free_by found ≡ Some first

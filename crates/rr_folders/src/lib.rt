@@ -69,7 +69,7 @@ pub use marked::MarkedDisk;
 pub use number_file::{NumberFile, reserve};
 pub use plain::{read_only_disk, see_plain};
 pub use reading::{Shares, lock_node, share_cluster, share_node};
-pub use requests::{Block, greatest_in, reserve_in};
+pub use requests::{Block, greatest_in, reserve_in, see_in};
 pub use telling::verdict_text;
 pub use verdict::{Verdict, verify};
 pub use verify_folder::{Reading, read_disk};

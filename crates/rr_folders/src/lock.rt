@@ -4,7 +4,7 @@ ghost use Rattle.std.specs.Prelude.{◌≡◌, ◌+◌, ◌≤◌, ◌⊎◌, �
 ghost use Rattle.rr_types.specs.declared.refusal.Refusal.TheVariants.{Device, OutOfMemory};
 
 use crate::closed::{Closed, done};
-use crate::number_file::reserve;
+use crate::number_file::{reserve, see_numbers};
 use crate::plain::{open_folder, see_areas};
 use crate::requests::Block;
 use rr_disk::{FileDisk, OpenedFile};
@@ -163,6 +163,14 @@ impl<F: Read + Write + Seek + FileExt + OpenFile + Drop> Locks<F> {
     {
         see_areas(rt, folder)?;
         FileDisk::open(rt, folder, false)
+    }
+
+    /// Sees that request numbers can be reserved by the file `requests` of the folder DIR. Nothing is written.
+    ///
+    /// # Errors
+    /// Those of `see_in`.
+    pub fn see_numbers<R: Files<File = F> + AllocGlobal>(&self, rt: &R) -> Result<(), Refusal> {
+        see_numbers(rt, self.dir())
     }
 
     /// Reserves the next block of request numbers, from `least` on, by the file `requests` of the folder DIR. No earlier block has any of

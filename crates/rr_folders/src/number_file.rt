@@ -4,7 +4,7 @@ ghost use Rattle.std.specs.Prelude.{◌≡◌, ◌+◌, ◌≤◌, is_ok, IfOk};
 ghost use Rattle.rr_folders.specs.NumberCalls.{NumberCall, reads, writes, syncs, renames, syncs_folder, found_by};
 
 use crate::plain::{make_fresh, see_plain};
-use crate::requests::{Block, reserve_in};
+use crate::requests::{Block, reserve_in, see_in};
 use rr_types::Refusal;
 use std::fs::OpenFile;
 use std::io::{ErrorKind, Write};
@@ -109,6 +109,12 @@ impl<'x, R: Files + AllocGlobal> NumberFile for FolderNumbers<'x, R> {
     fn sync_folder(&mut self) -> io::Result<()> {
         fs::open(self.rt, self.dir)?.sync_all()
     }
+}
+
+/// Sees that request numbers can be reserved by the file `requests` of a folder. Nothing is written.
+pub(crate) fn see_numbers<R: Files + AllocGlobal>(rt: &R, dir: &str) -> Result<(), Refusal> {
+    let mut file = FolderNumbers::new(rt, dir)?;
+    see_in(&mut file)
 }
 
 /// Reserves the next block of request numbers, from `least` on, by the file `requests` of a folder that is locked. No earlier block

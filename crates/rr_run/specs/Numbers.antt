@@ -6,11 +6,12 @@ use Rattle.rr_run.specs.declared.asking.Question.TheVariants as asks
 use Rattle.rr_run.specs.declared.asking.Told.{Told}
 use Rattle.rr_run.specs.declared.asking.Told.TheVariants as told
 
--- this number is the next of a block, which goes on behind it; or the first of a new block, where the old one has none
+-- this number is the next of a block, which goes on behind it; or the first of a new block, where the old one has none, and no lower than
+-- the old one's next
 abbrev pub IsNext : Reserved → Reserved → ℕ → Type 0
 IsNext old new n =
     ((old.next < old.end) × (n ≡ old.next) × (new ≡ record { next = n + 1; end = old.end }))
-    ⊎ ((old.end ≤ old.next) × (new ≡ record { next = n + 1; end = n + 1048576 }))
+    ⊎ ((old.end ≤ old.next) × (old.next ≤ n) × (new ≡ record { next = n + 1; end = n + 1048576 }))
 
 -- the greater of two numbers, of which either may be lacking
 abbrev pub greatest_of : Option ℕ → Option ℕ → Option ℕ

@@ -147,14 +147,14 @@ impl<
         if let Some(seq) = self.block.take() {
             return Ok(RequestNo { client, seq });
         }
-        self.block = self.locks.reserve(self.rt, 0)?;
+        self.block = self.locks.reserve(self.rt, self.block.next())?;
         match self.block.take() {
             Some(seq) => Ok(RequestNo { client, seq }),
             None => Err(Refusal::TooLarge),
         }
     }
 
-    // Gives no number up to this one, which a node's facts name.
+    // Gives no number up to this one, which a node's facts name. None is reserved.
     fn pass_number(&mut self, used: u64) -> Result<(), Refusal>
         ensures above { OnOk result (used < self.new.block.next) }
         ensures kept { self.new.unanswered ≡ self.old.unanswered }
@@ -163,7 +163,7 @@ impl<
             return Err(Refusal::TooLarge);
         };
         if !self.block.begin_at(least) {
-            self.block = self.locks.reserve(self.rt, least)?;
+            self.block = Block::behind(least);
         }
         Ok(())
     }

@@ -17,7 +17,7 @@ use crate::script_run::end_by_run_fault;
 use crate::teller::tellers;
 use crate::ticking::tick_by;
 use rr_cli::{ShellWords, end_by_refusal, end_by_stream, end_by_unprinted, number_in};
-use rr_folders::{Folders, Lockable, open_folders};
+use rr_folders::{Block, Folders, Lockable, open_folders};
 use rr_shell::{Prompting, Stop, Trouble};
 use rr_stream::{Counted, Sink};
 use rr_text::text_word::{push_byte, push_bytes};
@@ -93,10 +93,10 @@ where
     ensures quiet { result ≡ 0 → Keeps (E.contents err.old) (E.contents err.new) }
 {
     let Folders { locks, disks } = folders;
-    let block = match locks.reserve(rt, 0) {
-        Ok(block) => block,
-        Err(refusal) => return end_by_requests(err, dir, &refusal),
-    };
+    // (the first submit reserves them: a look writes nothing)
+    if let Err(refusal) = locks.see_numbers(rt) {
+        return end_by_requests(err, dir, &refusal);
+    }
     let post = match Post::new(rt.alloc(), nodes, tick) {
         Ok(post) => post,
         Err(refusal) => return end_by_refusal(err, &refusal),
@@ -110,7 +110,7 @@ where
         locks,
         nodes,
         client,
-        block,
+        block: Block::behind(0),
         board: &post,
         unanswered: None,
         hint: None,
