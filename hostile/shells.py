@@ -302,7 +302,7 @@ def folder_in_use_is_refused(case):
 
 def failing_device_is_told(case):
     """A device that fails ends the shell with its folder named, at the next line; what was acknowledged stands."""
-    for kind, node in (("write", 1), ("sync", 2)):
+    for kind, node, calls in (("write", 1, "writing"), ("sync", 2, "syncing")):
         env = {"LD_PRELOAD": case.preload, "FAIL_CALL": kind, "FAIL_PATH": f"/{node}/", "FAIL_NTH": "30", "FAIL_MANY": "1000000", "FAIL_HOW": "5"}
         shell = Shell(case, "--nodes", "3", "--client", "7", env=env)
         names = []
@@ -311,9 +311,9 @@ def failing_device_is_told(case):
             need(len(names) < 1000, "a device fails, and the shell goes on")
         need(answer is None and names, f"a claim with a failing device was answered {answer!r} behind {len(names)}")
 
-        def told(text, node=node):
+        def told(text, node=node, calls=calls):
             lines = text.decode().splitlines()
-            named = len(lines) == 2 and lines[0] == "rr: 2 Device" and re.fullmatch(f"{case.folder}/{node}(/a[01])?: [a-z ]+: Input/output error .*", lines[1])
+            named = len(lines) == 2 and lines[0] == "rr: 2 Device" and re.fullmatch(f"{case.folder}/{node}/a[01]: {calls}: Input/output error .*", lines[1])
             need(named, f"a failing device was told as {lines}")
 
         shell.end(status=5, said=told)

@@ -94,7 +94,11 @@ pub fn run_cluster<
     if tick < LEAST_TICK || tick > MOST_TICK {
         return Err(ClusterError::BadTick { tick });
     }
-    let Folders { locks, disks } = match open_folders(rt, nodes, dir) {
+    let Folders {
+        locks,
+        disks,
+        reasons: _reasons,
+    } = match open_folders(rt, nodes, dir) {
         Ok(folders) => folders,
         Err(closed) => return Err(error_of(rt.alloc(), closed)),
     };

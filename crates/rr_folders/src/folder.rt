@@ -14,21 +14,28 @@ use crate::mark_file::FolderMark;
 use crate::marked::MarkedDisk;
 use crate::noted::{note_marks, noted_in, noted_of};
 use crate::plain::see_requests;
+use crate::reason::{Reason, Reasons, ToldFile};
 use crate::seen::{Seen, cluster_in, is_there, look_at, look_over};
 use crate::tip::Tip;
-use rr_disk::{FileDisk, OpenedFile, make_folder};
+use rr_disk::{Area, FileDisk, OpenedFile, make_folder};
 use rr_types::{Nodes, Refusal};
+use std::alloc::Global;
 use std::fs;
 use std::fs::OpenFile;
 use std::io::{ErrorKind, Read, Seek, Write};
 use std::marker::Model;
 use std::os::unix::fs::FileExt;
 use std::rt::Files;
+use std::sync::Arc;
 
 /// A disk of the two files in a node's folder, whose mark is the file `node` there.
-pub type NodeDisk<'x, F, R> = MarkedDisk<FileDisk<OpenedFile<F>>, FolderMark<'x, R>>;
+pub type NodeDisk<'x, F, R> = MarkedDisk<NodeFiles<F>, FolderMark<'x, R>>;
 
-/// The folders of a cluster: DIR and those in it, locked while `locks` is there, and the disks in them, ascending.
+/// The two files in a node's folder. Why a call on them failed is noted.
+pub type NodeFiles<F> = FileDisk<ToldFile<OpenedFile<F>>>;
+
+/// The folders of a cluster: DIR and those in it, locked while `locks` is there, and the disks in them, ascending. `reasons` has why a
+/// disk failed, once one has.
 #[derive(Drop)]
 pub struct Folders<
     'x,
@@ -37,6 +44,7 @@ pub struct Folders<
 > {
     pub locks: Locks<F>,
     pub disks: Vec<NodeDisk<'x, F, R>>,
+    pub reasons: Reasons,
 }
 
 /// What was found in the folder DIR, which is locked while this is there. Contracts see how many nodes it was looked through for.
@@ -202,6 +210,28 @@ pub fn judge_folders<R: Files + AllocGlobal>(
     Ok(judge(nodes, cluster.as_ref(), found.as_slice()))
 }
 
+/// Opens the files of the disk in a folder, as `FileDisk::open` does. Why a call on them failed is noted.
+pub(crate) fn open_files<
+    F: Read + Write + Seek + FileExt + OpenFile + Drop,
+    R: Files<File = F> + AllocGlobal,
+>(
+    rt: &R,
+    folder: &str,
+    make: bool,
+    reason: Option<Arc<Reason, Global>>,
+) -> Result<NodeFiles<F>, Refusal>
+    ensures cause { IfErr result (λ e. (e ≡ OutOfMemory) ⊎ (e ≡ Device)) }
+{
+    let (first, second) = FileDisk::open(rt, folder, make)?.into_files();
+    let other = match &reason {
+        Some(reason) => Some(Arc::try_clone(reason)?),
+        None => None,
+    };
+    let first = ToldFile::new(first, Area::First, reason);
+    let second = ToldFile::new(second, Area::Second, other);
+    FileDisk::over(first, second)
+}
+
 // The disk in a folder that has a mark. What is written there goes on in the mark. None: it has none.
 fn open_marked<
     'x,
@@ -213,7 +243,7 @@ fn open_marked<
         return Ok(None);
     };
     let keeper = FolderMark::new(rt, folder, mark.identity, mark.node, None)?;
-    match FileDisk::open(rt, folder, false) {
+    match open_files(rt, folder, false, None) {
         Ok(disk) => Ok(Some(MarkedDisk::new(disk, keeper, mark.course, known))),
         Err(refusal) => Err(Closed::Unopened(mark.node, refusal)),
     }
@@ -279,7 +309,8 @@ pub fn enter<
 {
     let mut survey = survey;
     let cluster = prepare(rt, nodes, dir, &survey)?;
-    let disks = match open_disks(rt, nodes, dir, &cluster, &mut survey) {
+    let reasons = Reasons::new(rt.alloc(), nodes)?;
+    let disks = match open_disks(rt, nodes, dir, &cluster, &mut survey, &reasons) {
         Ok(disks) => disks,
         Err(closed) => {
             let _ = tidy(rt, dir, &survey);
@@ -295,6 +326,7 @@ pub fn enter<
     Ok(Folders {
         locks: survey.into_locks(),
         disks,
+        reasons,
     })
 }
 

@@ -5,16 +5,17 @@ ghost use Rattle.std.specs.Prelude.{◌≡◌, ◌<◌, length, IfOk};
 
 use crate::closed::{Closed, done, failed};
 use crate::cluster::{Cluster, Course, Identity, Mark};
-use crate::folder::{NodeDisk, Survey, remove_made};
+use crate::folder::{NodeDisk, NodeFiles, Survey, open_files, remove_made};
 use crate::front::AreaFront;
 use crate::lock::{Lockable, Locks};
 use crate::mark_file::FolderMark;
 use crate::marked::MarkedDisk;
 use crate::noted::Noter;
 use crate::plain::make_fresh;
+use crate::reason::Reasons;
 use crate::seen::{Seen, course_of, is_there};
 use crate::tip::Tip;
-use rr_disk::{FileDisk, OpenedFile, make_folder};
+use rr_disk::make_folder;
 use rr_journal::Journal;
 use rr_types::{NodeId, NodeSet, Nodes, Refusal};
 use std::alloc::Global;
@@ -158,6 +159,14 @@ pub fn try_folder<R: Files + AllocGlobal>(rt: &R, folder: &str) -> Result<(), Cl
     try_file(rt, folder)
 }
 
+/// Writes and syncs a file in the folder DIR, which is taken away: so a program that was refused learns which call fails.
+///
+/// # Errors
+/// `Failed`, with the call that fails. `OutOfMemory`.
+pub fn try_dir<R: Files + AllocGlobal>(rt: &R, dir: &str) -> Result<(), Closed> {
+    try_file(rt, dir)
+}
+
 // Writes and syncs a file in a folder, and takes it away. The folder is named where a call fails.
 fn try_file<R: Files + AllocGlobal>(rt: &R, folder: &str) -> Result<(), Closed> {
     // (the number is drawn, so that no file of anybody's has this name)
@@ -179,8 +188,8 @@ fn formatted<F: Read + Write + Seek + FileExt + OpenFile + Drop, R: Files<File =
     folder: &str,
     nodes: Nodes,
     node: NodeId,
-    disk: FileDisk<OpenedFile<F>>,
-) -> Result<FileDisk<OpenedFile<F>>, Closed>
+    disk: NodeFiles<F>,
+) -> Result<NodeFiles<F>, Closed>
     requires { node < nodes }
 {
     match Journal::open(rt.alloc(), nodes, node, disk) {
@@ -241,6 +250,7 @@ fn open_node<
     node: NodeId,
     survey: &mut Survey<F>,
     noter: Arc<Noter, Global>,
+    reasons: &Reasons,
 ) -> Result<NodeDisk<'x, F, R>, Closed>
     requires { node < nodes }
 {
@@ -254,7 +264,7 @@ fn open_node<
         }
     }
     let keeper = FolderMark::new(rt, folder.as_str(), cluster.identity, node, Some(noter))?;
-    match FileDisk::open(rt, folder.as_str(), true) {
+    match open_files(rt, folder.as_str(), true, reasons.of(index)?) {
         Ok(disk) if is_formatted => {
             let (course, known) = course_in(survey, index);
             Ok(MarkedDisk::new(disk, keeper, course, known))
@@ -278,6 +288,7 @@ pub(crate) fn open_disks<
     dir: &str,
     cluster: &Cluster,
     survey: &mut Survey<F>,
+    reasons: &Reasons,
 ) -> Result<Vec<NodeDisk<'x, F, R>>, Closed>
     ensures { IfOk result (λ v. length v.items ≡ nodes) }
 {
@@ -288,7 +299,7 @@ pub(crate) fn open_disks<
             unreachable!()
         };
         let noter = Arc::try_clone(&noter)?;
-        disks.push(open_node(rt, nodes, dir, cluster, node, survey, noter)?)?;
+        disks.push(open_node(rt, nodes, dir, cluster, node, survey, noter, reasons)?)?;
     }
     Ok(disks)
 }

@@ -46,6 +46,7 @@ mod noted;
 mod number_file;
 mod plain;
 mod reading;
+mod reason;
 mod requests;
 mod seen;
 mod telling;
@@ -59,8 +60,10 @@ pub use decided::{decided_text, longest_decided};
 pub use exporting::export;
 pub use faults::print_fault;
 pub use fields::Form;
-pub use folder::{Folders, NodeDisk, Survey, enter, judge_folders, open_folders, survey_folders};
-pub use forming::try_folder;
+pub use folder::{
+    Folders, NodeDisk, NodeFiles, Survey, enter, judge_folders, open_folders, survey_folders,
+};
+pub use forming::{try_dir, try_folder};
 pub use judged::{Judged, judge_cluster};
 pub use judging::Fault;
 pub use lock::{Lockable, Locks};
@@ -69,6 +72,7 @@ pub use marked::MarkedDisk;
 pub use number_file::{NumberFile, reserve};
 pub use plain::{read_only_disk, see_plain};
 pub use reading::{Shares, lock_node, share_cluster, share_node};
+pub use reason::{Reasons, ToldFile};
 pub use requests::{Block, greatest_in, reserve_in, see_in};
 pub use telling::verdict_text;
 pub use verdict::{Verdict, verify};

@@ -19,7 +19,8 @@ use rr_cli::{Form, end_by_refusal, end_by_stream, end_by_text, nodes_of, print_f
 use rr_disk::{Disk, FileDisk};
 use rr_explain::print_script_fault;
 use rr_folders::{
-    Closed, Folders, Lockable, Locks, Survey, enter, read_only_disk, survey_folders, try_folder,
+    Closed, Folders, Lockable, Locks, Reasons, Survey, enter, read_only_disk, survey_folders,
+    try_dir, try_folder,
 };
 use rr_journal::inspect;
 use rr_stream::{FileReader, Sink, Source, read_all};
@@ -50,6 +51,7 @@ pub(crate) fn end_by_run_fault<R: Files + AllocGlobal, E: Write>(
     err: &mut E,
     dir: &str,
     nodes: Nodes,
+    reasons: &Reasons,
     refusal: &Refusal,
 ) -> u8
 where
@@ -57,10 +59,29 @@ where
     ensures { result ≡ status_of refusal.now }
 {
     let ending = end_by_refusal(err, refusal);
-    if matches!(refusal, Refusal::Device | Refusal::Damaged { .. }) {
-        let _ = print_refused_folder(rt, err, dir, nodes, refusal);
-    }
+    let _ = match refusal {
+        Refusal::Device => print_reason(rt, err, dir, nodes, reasons),
+        Refusal::Damaged { .. } => print_refused_folder(rt, err, dir, nodes, refusal),
+        _ => Ok(()),
+    };
     ending
+}
+
+// Prints why a device call failed, as it was noted; or else what is wrong in the first folder of a run.
+fn print_reason<R: Files + AllocGlobal, W: Write>(
+    rt: &R,
+    err: &mut W,
+    dir: &str,
+    nodes: Nodes,
+    reasons: &Reasons,
+) -> io::Result<()>
+where
+    R::File: FileExt,
+{
+    if reasons.print(err, dir)? {
+        return Ok(());
+    }
+    print_refused_folder(rt, err, dir, nodes, &Refusal::Device)
 }
 
 // Prints what is wrong in the first folder of a run that can't be read, or that those which can be differ.
@@ -76,8 +97,8 @@ where
 {
     for node in 0..nodes.count() {
         let path = format!(in rt.alloc(); "{dir}/{node}")?;
-        if fs::open(rt, path.as_str()).is_err() {
-            return writeln!(err, "{path}: the folder can't be made or opened");
+        if let Err(error) = fs::open(rt, path.as_str()) {
+            return writeln!(err, "{path}: opening the folder: {error}");
         }
         if let Err(refusal) = read_folder(rt, path.as_str()) {
             return print_folder_fault(rt, err, path.as_str(), &refusal);
@@ -95,10 +116,13 @@ where
             return writeln!(err, "{path}: {call}: {error}");
         }
     }
-    writeln!(
-        err,
-        "{dir}: a file in its folders couldn't be read or written"
-    )
+    match try_dir(rt, dir) {
+        Err(Closed::Failed { path, call, error }) => writeln!(err, "{path}: {call}: {error}"),
+        _ => writeln!(
+            err,
+            "{dir}: a file in its folders couldn't be read or written"
+        ),
+    }
 }
 
 // Reads both areas of the disk in a folder.
@@ -208,7 +232,11 @@ fn run_in<
         Ok(folders) => folders,
         Err(closed) => return end_by_closed(rt, err, dir, nodes, &closed),
     };
-    let Folders { locks, disks } = folders;
+    let Folders {
+        locks,
+        disks,
+        reasons,
+    } = folders;
     let ran = run_locked(rt, &locks, disks, script, None, manner.tick);
     drop(locks);
     match ran {
@@ -217,7 +245,7 @@ fn run_in<
             tell_reused(rt.alloc(), err, script.lines(), reused.as_slice());
             end_by_answers(rt.alloc(), manner.form, &answers, out, err)
         }
-        Err(refusal) => end_by_run_fault(rt, err, dir, nodes, &refusal),
+        Err(refusal) => end_by_run_fault(rt, err, dir, nodes, &reasons, &refusal),
     }
 }
 
@@ -245,7 +273,11 @@ fn run_taped<
         Ok(folders) => folders,
         Err(closed) => return end_by_closed(rt, err, dir, nodes, &closed),
     };
-    let Folders { locks, disks } = folders;
+    let Folders {
+        locks,
+        disks,
+        reasons,
+    } = folders;
     let recorder = Recorder::new(rt.alloc(), nodes);
     let ran = run_locked(rt, &locks, disks, script, Some(&recorder), manner.tick);
     drop(locks);
@@ -263,7 +295,7 @@ fn run_taped<
                 err,
             )
         }
-        Err(refusal) => end_by_run_fault(rt, err, dir, nodes, &refusal),
+        Err(refusal) => end_by_run_fault(rt, err, dir, nodes, &reasons, &refusal),
     }
 }
 

@@ -17,7 +17,7 @@ use crate::script_run::end_by_run_fault;
 use crate::teller::tellers;
 use crate::ticking::tick_by;
 use rr_cli::{ShellWords, end_by_refusal, end_by_stream, end_by_unprinted, number_in};
-use rr_folders::{Block, Folders, Lockable, open_folders};
+use rr_folders::{Block, Folders, Lockable, Reasons, open_folders};
 use rr_shell::{Prompting, Stop, Trouble};
 use rr_stream::{Counted, Sink};
 use rr_text::text_word::{push_byte, push_bytes};
@@ -48,6 +48,7 @@ fn end_by_talk<R: Files + AllocGlobal, E: Write>(
     err: &mut E,
     dir: &str,
     nodes: Nodes,
+    reasons: &Reasons,
     talked: Result<Option<Trouble>, Stop>,
     refusal: Option<Refusal>,
 ) -> u8
@@ -58,10 +59,10 @@ where
 {
     match talked {
         Ok(trouble) => match refusal {
-            Some(refusal) => end_by_run_fault(rt, err, dir, nodes, &refusal),
+            Some(refusal) => end_by_run_fault(rt, err, dir, nodes, reasons, &refusal),
             None => ending_status(trouble),
         },
-        Err(Stop::Refused(refusal)) => end_by_run_fault(rt, err, dir, nodes, &refusal),
+        Err(Stop::Refused(refusal)) => end_by_run_fault(rt, err, dir, nodes, reasons, &refusal),
         Err(Stop::Unread(error)) => end_by_stream(err, "standard input", &error),
         Err(Stop::Unprinted(error)) => end_by_unprinted(err, &error),
     }
@@ -92,7 +93,11 @@ where
     ensures ends { EndsOnShell json strict nodes (I.reading input.old) (I.reading input.new) result (O.printing out.old) (O.printing out.new) }
     ensures quiet { result ≡ 0 → Keeps (E.contents err.old) (E.contents err.new) }
 {
-    let Folders { locks, disks } = folders;
+    let Folders {
+        locks,
+        disks,
+        reasons,
+    } = folders;
     // (the first submit reserves them: a look writes nothing)
     if let Err(refusal) = locks.see_numbers(rt) {
         return end_by_requests(err, dir, &refusal);
@@ -120,7 +125,7 @@ where
     let talked = talk_beside(
         rt, nodes, disks, clients, &post, json, strict, console, input, out,
     );
-    end_by_talk(rt, err, dir, nodes, talked, post.into_refusal())
+    end_by_talk(rt, err, dir, nodes, &reasons, talked, post.into_refusal())
 }
 
 // Ends by a file of request numbers that none can be reserved in. A second line tells it.
