@@ -2,7 +2,6 @@
 
 ghost use Rattle.std.specs.Prelude.{◌≡◌, ◌+◌, ◌^◌, ◌<◌, [], length, None, Some, IfOk, IfErr, MatchOption};
 ghost use Rattle.rr_disk.specs.Crash.{restarted};
-ghost use Rattle.rr_types.specs.Counts.{counted};
 ghost use Rattle.rr_host.specs.Disks.{noted, HostRead, HostWrite, HostSync};
 
 use rr_disk::{Area, Disk};
@@ -135,15 +134,6 @@ impl HostDisk {
         self.written = Some(Written { area, at, bytes });
         Some(())
     }
-
-    // Counts a device call that failed.
-    fn fails(&mut self) -> Refusal
-        ensures counts { self.new ≡ record self.old { faults = counted self.old.faults } }
-        ensures value { result ≡ Refusal.Device }
-    {
-        self.faults = self.faults.saturating_add(1);
-        Refusal::Device
-    }
 }
 
 /// A copy of some bytes.
@@ -185,7 +175,10 @@ impl Disk for HostDisk {
         };
         match held {
             Some(bytes) if at == 0 && bytes.len() as u64 <= count => Ok(bytes),
-            _ => Err(self.fails()),
+            _ => {
+                self.faults = self.faults.saturating_add(1);
+                Err(Refusal::Device)
+            }
         }
     }
 
@@ -193,7 +186,10 @@ impl Disk for HostDisk {
         self.calls = self.calls.saturating_add(1);
         match self.note(area, at, bytes) {
             Some(()) => Ok(()),
-            None => Err(self.fails()),
+            None => {
+                self.faults = self.faults.saturating_add(1);
+                Err(Refusal::Device)
+            }
         }
     }
 
