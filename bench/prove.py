@@ -145,7 +145,7 @@ class Proofs:
     def prove_alone(self, crate, tests, room, jobs):
         """The same of a crate that no other run is just proving; the folder is its place among what is kept."""
         out = pathlib.Path(crate.folder) / "out"
-        is_library = not (tests or crate.is_program)
+        is_library = not (tests or crate.is_program or crate.is_static)
         if is_library:
             shutil.rmtree(out / "rlib", ignore_errors=True)
         same = self.over_interfaces(crate, tests)

@@ -100,12 +100,18 @@ TicksOr false u v = Beats u v
 abbrev pub Ticks : Up → Up → Type 0
 Ticks u v = TicksOr (is_catching_up u) (heard_again u) v
 
--- what is heard again, the tick or the advance is refused
+-- a message, if there is one, is refused
+abbrev pub RefusesAny : Option Message → NodeState → Refusal → Type 0
+RefusesAny None s e = ⊥
+RefusesAny (Some m) s e = Refuses (Hear m) s e
+
+-- the tick is refused, or the advance behind it
+abbrev pub StopsBeat : NodeState → NodeState → Refusal → Type 0
+StopsBeat s t e = ((t ≡ s) × Refuses Tick s e) ⊎ ((t ≡ node_step Tick s) × Refuses Advance (node_step Tick s) e)
+
+-- what is heard again is refused, or what comes behind it
 abbrev pub StopsTick : Up → Up → Refusal → Type 0
-StopsTick u v e =
-    (m : Message) × ((again_of u ≡ Some m) × (v.core ≡ u.core) × Refuses (Hear m) u.core e)
-    ⊎ ((v.core ≡ (heard_again u).core) × Refuses Tick (heard_again u).core e)
-    ⊎ ((v.core ≡ node_step Tick (heard_again u).core) × Refuses Advance (node_step Tick (heard_again u).core) e)
+StopsTick u v e = ((v.core ≡ u.core) × RefusesAny (again_of u) u.core e) ⊎ StopsBeat (heard_again u).core v.core e
 
 -- ---- what leaves
 
@@ -118,7 +124,7 @@ Leaves u (Ok leaving.Own) v =
 Leaves u (Ok (leaving.Out to bytes)) v =
     (m : Message) × (next_leaving u.core ≡ Some m) × (m.to ≢ u.core.node) × (to ≡ m.to) × (bytes ≡ message_bytes m)
     × (v ≡ record u { core = message_left u.core; chase = chase_sent m.body u.chase })
-Leaves u (Err e) v = (m : Message) × (next_leaving u.core ≡ Some m) × (v.core ≡ message_left u.core) × ((e ≡ OutOfMemory) ⊎ Refuses (Hear m) (message_left u.core) e)
+Leaves u (Err e) v = (m : Message) × (next_leaving u.core ≡ Some m) × (v.core ≡ message_left u.core) × Refuses (Hear m) (message_left u.core) e
 
 -- ---- groups
 

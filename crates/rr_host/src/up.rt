@@ -1,6 +1,6 @@
 //! A node that is up: its core, its journal, the job that runs, and how it follows the others.
 
-ghost use Rattle.std.specs.Prelude.{◌≡◌, ◌⊎◌, ◌+◌, None, Some, length, IfOk, IfErr, IfSome, OnOk, OnErr, MatchOption, MatchResult};
+ghost use Rattle.std.specs.Prelude.{◌≡◌, ◌+◌, None, Some, length, IfOk, IfErr, IfSome, OnOk, OnErr, MatchOption, MatchResult};
 ghost use Rattle.std.specs.Option.{option_map_or};
 ghost use Rattle.rr_types.specs.declared.input.Input.TheVariants as told;
 ghost use Rattle.rr_types.specs.Registry.{reply_of};
@@ -11,7 +11,7 @@ ghost use Rattle.rr_frame.specs.MessageFormat.{message_bytes};
 ghost use Rattle.rr_host.specs.Disks.{called, noted};
 ghost use Rattle.rr_host.specs.Chases.{heard_of, chase_of, chase_sent};
 ghost use Rattle.rr_host.specs.Jobs.{StepsOn, HasFailed, IsOfSwitch};
-ghost use Rattle.rr_host.specs.Ups.{Refuses, heard_by, StopsIn, heard, again_of, heard_again, is_catching_up, Advances, Beats, Ticks, StopsTick, Leaves, IsRefused, Marks, Begins, Flushes};
+ghost use Rattle.rr_host.specs.Ups.{Refuses, RefusesAny, heard_by, StopsAtOne, StopsIn, heard, again_of, heard_again, is_catching_up, Advances, Beats, StopsBeat, Ticks, StopsTick, Leaves, IsRefused, Marks, Begins, Flushes};
 
 use crate::chase::{Chase, Hearing};
 use crate::disk::{HostDisk, Written};
@@ -155,8 +155,7 @@ impl Up {
     /// The node hears two messages.
     fn hear_both(&mut self, first: &Message, second: &Message) -> Result<(), Refusal>
         ensures ok { OnOk result (self.new ≡ record self.old { core = node_step (told.Hear second.now) (node_step (told.Hear first.now) self.old.core) }) }
-        ensures err { IfErr result (λ e. ((self.new.core ≡ self.old.core) × Refuses (told.Hear first.now) self.old.core e)
-            ⊎ ((self.new.core ≡ node_step (told.Hear first.now) self.old.core) × Refuses (told.Hear second.now) (node_step (told.Hear first.now) self.old.core) e)) }
+        ensures err { IfErr result (StopsAtOne first.now second.now self.old.core self.new.core) }
         ensures rest { self.new ≡ record self.old { core = self.new.core } }
     {
         match self.hear_one(first) {
@@ -185,7 +184,7 @@ impl Up {
     fn hear_again(&mut self) -> Result<bool, Refusal>
         ensures ok { OnOk result (self.new ≡ heard_again self.old) }
         ensures gaining { IfOk result (λ gains. gains ≡ is_catching_up self.old) }
-        ensures err { IfErr result (λ e. (self.new.core ≡ self.old.core) × IfSome (again_of self.old) (λ m. Refuses (told.Hear m) self.old.core e)) }
+        ensures err { IfErr result (λ e. (self.new.core ≡ self.old.core) × RefusesAny (again_of self.old) self.old.core e) }
         ensures rest { self.new ≡ record self.old { core = self.new.core; chase = self.new.chase } }
     {
         let decided = self.core.decided_count() as u64;
@@ -199,7 +198,7 @@ impl Up {
     fn hear_any(&mut self, message: &Option<Message>) -> Result<(), Refusal>
         ensures ok { OnOk result (self.new ≡ record self.old { core = option_map_or (λ m. node_step (told.Hear m) self.old.core) message.now self.old.core }) }
         ensures err { OnErr result (self.new ≡ self.old) }
-        ensures cause { IfErr result (λ e. IfSome message.now (λ m. Refuses (told.Hear m) self.old.core e)) }
+        ensures cause { IfErr result (RefusesAny message.now self.old.core) }
     {
         match message {
             None => Ok(()),
@@ -210,8 +209,7 @@ impl Up {
     /// The node ticks, and advances where it has got no further.
     fn beat(&mut self) -> Result<(), Refusal>
         ensures ok { OnOk result (Beats self.old self.new) }
-        ensures err { IfErr result (λ e. ((self.new ≡ self.old) × Refuses told.Tick self.old.core e)
-            ⊎ ((self.new.core ≡ node_step told.Tick self.old.core) × Refuses told.Advance (node_step told.Tick self.old.core) e)) }
+        ensures err { IfErr result (StopsBeat self.old.core self.new.core) }
         ensures rest { self.new ≡ record self.old { core = self.new.core; standstill = self.new.standstill } }
     {
         match self.tell(&Input::Tick) {
