@@ -1,11 +1,13 @@
 //! What a handle can be asked.
 
+ghost use Rattle.std.specs.Prelude.{◌≡◌, true, false, None};
+
 use crate::filled::{fill, put_binding};
 use crate::handle::RrNode;
 use crate::numbers::{code, reply_code};
 use core::mem::replace_with;
 use rr_disk::Area;
-use rr_host::{Host, Leaving, holding, next_about, status};
+use rr_host::{Host, Leaving, holding, next_about, standing};
 use rr_types::{Command, Name, Refusal, RequestNo};
 
 /// A write that is due. `kind` is 0 where none is, else 1.
@@ -92,7 +94,10 @@ const DOWN: u32 = 5;
 
 impl RrNode {
     /// A node is put in. 13 where there is one.
-    pub fn open(&mut self, host: Box<Host>) -> u32 {
+    pub fn open(&mut self, host: Box<Host>) -> u32
+        ensures closed { self.old.is_open ≡ false → (result ≡ 0) × (self.new.is_open ≡ true) }
+        ensures open { self.old.is_open ≡ true → (result ≡ 13) × (self.new ≡ self.old) }
+    {
         if self.is_open {
             return code(Err(Refusal::Busy));
         }
@@ -101,7 +106,9 @@ impl RrNode {
     }
 
     /// Whether there is a node.
-    pub fn is_open(&self) -> bool {
+    pub fn is_open(&self) -> bool
+        ensures { result ≡ self.now.is_open }
+    {
         self.is_open
     }
 
@@ -114,17 +121,23 @@ impl RrNode {
     }
 
     /// Whether the node is up.
-    pub fn is_up(&mut self) -> bool {
+    pub fn is_up(&mut self) -> bool
+        ensures closed { self.old.is_open ≡ false → (result ≡ false) × (self.new ≡ self.old) }
+    {
         on_host!(self, (), false, |host, _| host.is_up())
     }
 
     /// Marks what is synced, begins a flush of what is staged, and tells the write that is due. Its first bytes are copied.
-    pub fn due(&mut self, out: &mut [u8]) -> (u32, RrCall) {
+    pub fn due(&mut self, out: &mut [u8]) -> (u32, RrCall)
+        ensures closed { self.old.is_open ≡ false → (result.0 ≡ 5) × (self.new ≡ self.old) }
+    {
         on_host!(self, out, (DOWN, NO_CALL), |host, out| due(&mut host, out))
     }
 
     /// The due write was made and synced, or it couldn't be: the node is down then.
-    pub fn done(&mut self, is_done: bool) -> u32 {
+    pub fn done(&mut self, is_done: bool) -> u32
+        ensures closed { self.old.is_open ≡ false → (result ≡ 5) × (self.new ≡ self.old) }
+    {
         on_host!(
             self,
             is_done,
@@ -134,7 +147,9 @@ impl RrNode {
     }
 
     /// A client asks for this command.
-    pub fn submit(&mut self, command: Command) -> u32 {
+    pub fn submit(&mut self, command: Command) -> u32
+        ensures closed { self.old.is_open ≡ false → (result ≡ 5) × (self.new ≡ self.old) }
+    {
         on_host!(
             self,
             command,
@@ -144,27 +159,37 @@ impl RrNode {
     }
 
     /// A message came, as these bytes.
-    pub fn hear(&mut self, bytes: &[u8]) -> u32 {
+    pub fn hear(&mut self, bytes: &[u8]) -> u32
+        ensures closed { self.old.is_open ≡ false → (result ≡ 5) × (self.new ≡ self.old) }
+    {
         on_host!(self, bytes, DOWN, |host, bytes| code(host.hear(bytes)))
     }
 
     /// A tick of the caller's clock.
-    pub fn tick(&mut self) -> u32 {
+    pub fn tick(&mut self) -> u32
+        ensures closed { self.old.is_open ≡ false → (result ≡ 5) × (self.new ≡ self.old) }
+    {
         on_host!(self, (), DOWN, |host, _| code(host.tick()))
     }
 
     /// These nodes are suspected to be down, and no others.
-    pub fn suspect(&mut self, bits: u8) -> u32 {
+    pub fn suspect(&mut self, bits: u8) -> u32
+        ensures closed { self.old.is_open ≡ false → (result ≡ 5) × (self.new ≡ self.old) }
+    {
         on_host!(self, bits, DOWN, |host, bits| code(host.suspect(bits)))
     }
 
     /// Begins a switch to a snapshot.
-    pub fn snapshot(&mut self) -> u32 {
+    pub fn snapshot(&mut self) -> u32
+        ensures closed { self.old.is_open ≡ false → (result ≡ 5) × (self.new ≡ self.old) }
+    {
         on_host!(self, (), DOWN, |host, _| code(host.snapshot()))
     }
 
     /// The oldest message that may leave, with its bytes.
-    pub fn next_message(&mut self, out: &mut [u8]) -> (u32, RrMessage) {
+    pub fn next_message(&mut self, out: &mut [u8]) -> (u32, RrMessage)
+        ensures closed { self.old.is_open ≡ false → (result.0 ≡ 5) × (self.new ≡ self.old) }
+    {
         on_host!(
             self,
             out,
@@ -174,12 +199,16 @@ impl RrNode {
     }
 
     /// The oldest request that waits here and is decided.
-    pub fn next_ack(&mut self) -> (u32, RrAck) {
+    pub fn next_ack(&mut self) -> (u32, RrAck)
+        ensures closed { self.old.is_open ≡ false → (result.0 ≡ 5) × (self.new ≡ self.old) }
+    {
         on_host!(self, (), (DOWN, NO_ACK), |host, _| next_ack(&mut host))
     }
 
     /// Who has a name, with its value.
-    pub fn look(&mut self, name: &Name, out: &mut [u8]) -> (u32, RrHolding) {
+    pub fn look(&mut self, name: &Name, out: &mut [u8]) -> (u32, RrHolding)
+        ensures closed { self.old.is_open ≡ false → (result.0 ≡ 5) × (self.new ≡ self.old) }
+    {
         on_host!(
             self,
             (name, out),
@@ -189,7 +218,9 @@ impl RrNode {
     }
 
     /// The bound names behind the first `skip`, as many as have room.
-    pub fn list(&mut self, skip: usize, out: &mut [u8]) -> (u32, RrPart) {
+    pub fn list(&mut self, skip: usize, out: &mut [u8]) -> (u32, RrPart)
+        ensures closed { self.old.is_open ≡ false → (result.0 ≡ 5) × (self.new ≡ self.old) }
+    {
         on_host!(
             self,
             (skip, out),
@@ -199,12 +230,16 @@ impl RrNode {
     }
 
     /// How the node stands.
-    pub fn status(&mut self) -> (u32, RrStanding) {
+    pub fn status(&mut self) -> (u32, RrStanding)
+        ensures closed { self.old.is_open ≡ false → (result.0 ≡ 5) × (self.new ≡ self.old) }
+    {
         on_host!(self, (), (DOWN, NO_STATUS), |host, _| status_of(&host))
     }
 
     /// The command at a place of the decided list.
-    pub fn decided(&mut self, place: usize) -> Option<Command> {
+    pub fn decided(&mut self, place: usize) -> Option<Command>
+        ensures closed { self.old.is_open ≡ false → (result ≡ None) × (self.new ≡ self.old) }
+    {
         on_host!(self, place, None, |host, place| match host.core() {
             None => None,
             Some(core) => core.decided_at(place),
@@ -223,7 +258,9 @@ impl RrNode {
     }
 
     /// The first place of the decided list, from one on, whose command is of this name; the list's length where there is none.
-    pub fn watch(&mut self, from: usize, name: &Name) -> (u32, usize) {
+    pub fn watch(&mut self, from: usize, name: &Name) -> (u32, usize)
+        ensures closed { self.old.is_open ≡ false → (result.0 ≡ 5) × (self.new ≡ self.old) }
+    {
         on_host!(self, (from, name), (DOWN, 0), |host, (from, name)| {
             match host.core() {
                 None => (DOWN, 0),
@@ -399,7 +436,7 @@ fn status_of(host: &Host) -> (u32, RrStanding) {
     match host.core() {
         None => (0, stands),
         Some(core) => {
-            let now = status(core);
+            let now = standing(core);
             let stands = RrStanding {
                 decided: now.decided,
                 facts: now.facts,

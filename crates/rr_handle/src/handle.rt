@@ -16,7 +16,9 @@ pub struct RrNode {
 
 impl RrNode {
     /// The handle of a node.
-    pub fn of(host: Box<Host>) -> RrNode {
+    pub fn of(host: Box<Host>) -> RrNode
+        ensures { result.is_open ≡ true }
+    {
         RrNode {
             is_open: true,
             held: Held::of(host),

@@ -13,7 +13,9 @@ use crate::doing::{Doing, open_on};
 use crate::up::{Leaving, Stop, Up};
 use rr_core::{Core, Opening};
 use rr_frame::decode;
-use rr_types::{Command, Input, Message, NodeId, NodeSet, Nodes, Refusal, Reply, RequestNo};
+use rr_types::{
+    Body, Command, Input, Message, NodeId, NodeSet, Nodes, Op, Refusal, Reply, RequestNo, made_of,
+};
 use std::alloc::Global;
 use std::mem;
 
@@ -193,6 +195,7 @@ impl Host {
         ensures down { is_up self.old.doing ≡ false → OnErr result (self.new ≡ self.old) }
         ensures rest { self.new ≡ record self.old { doing = self.new.doing } }
     {
+        made_of!(Body, Command, Op);
         let message = decode(self.nodes, bytes)?;
         self.hear_message(&message)
     }

@@ -14,5 +14,5 @@ mod up;
 
 pub use disk::{HostDisk, Written};
 pub use host::Host;
-pub use reading::{Status, holding, name_of, next_about, status};
+pub use reading::{Status, holding, name_of, next_about, standing};
 pub use up::Leaving;

@@ -1,6 +1,6 @@
 //! What a host reads of a node that is up: by what is decided and safe there.
 
-ghost use Rattle.std.specs.Prelude.{◌≡◌, ◌<◌, ◌≤◌, max, ℕ, length, slice_get, IfSome};
+ghost use Rattle.std.specs.Prelude.{◌≡◌, ◌<◌, ◌≤◌, max, ℕ, true, false, length, slice_get, IfSome};
 ghost use Rattle.std.specs.Str.{bytes_eq};
 ghost use Rattle.rr_types.specs.Registry.{registry_of, holding_of};
 ghost use Rattle.rr_model.specs.NodeState.{decided_prefix};
@@ -22,7 +22,7 @@ pub struct Status {
 }
 
 /// How a node stands.
-pub fn status(core: &Core) -> Status
+pub fn standing(core: &Core) -> Status
     ensures decided { result.decided ≡ length (decided_prefix core.now) }
     ensures facts { result.facts ≡ core.now.marked_end }
     ensures suspects { result.suspects ≡ core.now.suspects }
@@ -68,8 +68,8 @@ pub fn name_of(op: &Op) -> &Name
 /// The first place of the decided list, from one on, whose command is of this name; the length of the list where there is none.
 pub fn next_about(core: &Core, from: usize, name: &Name) -> usize
     ensures within { result ≤ max from (length (decided_prefix core.now)) }
-    ensures before { (k : ℕ) → from ≤ k → k < result → IfSome (slice_get (decided_prefix core.now) k) (λ c. name_in c.op ≡ name.now → ⊥) }
-    ensures found { result < length (decided_prefix core.now) → IfSome (slice_get (decided_prefix core.now) result) (λ c. name_in c.op ≡ name.now) }
+    ensures before { (k : ℕ) → k < result → from ≤ k → IfSome (slice_get (decided_prefix core.now) k) (λ c. bytes_eq name.now (name_in c.op) ≡ false) }
+    ensures found { result < length (decided_prefix core.now) → IfSome (slice_get (decided_prefix core.now) result) (λ c. bytes_eq name.now (name_in c.op) ≡ true) }
 {
     let end = core.decided_count();
     for place in from..end {

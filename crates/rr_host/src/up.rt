@@ -5,7 +5,7 @@ ghost use Rattle.std.specs.Option.{option_map_or};
 ghost use Rattle.rr_types.specs.declared.input.Input.TheVariants as told;
 ghost use Rattle.rr_types.specs.Registry.{reply_of};
 ghost use Rattle.rr_model.specs.NodeState.{decided_prefix};
-ghost use Rattle.rr_model.specs.NodeStep.{node_step, refusal_of, next_acknowledged, acknowledged};
+ghost use Rattle.rr_model.specs.NodeStep.{node_step, refusal_of, running_group, group_put_back, next_acknowledged, acknowledged};
 ghost use Rattle.rr_frame.specs.Snapshots.{IsSnapshot};
 ghost use Rattle.rr_frame.specs.MessageFormat.{message_bytes};
 ghost use Rattle.rr_host.specs.Disks.{called, noted};
@@ -350,7 +350,7 @@ impl Up {
             Ok(Some(group)) => match self.journal.begin(alloc, group) {
                 Ok(job) => self.write_body(job),
                 Err((refusal, group)) => {
-                    let _own = self.core.put_back(group);
+                    put_back(&mut self.core, group);
                     Err(Stop::Refused(refusal))
                 }
             },
@@ -427,6 +427,13 @@ impl Up {
             },
         }
     }
+}
+
+/// The group that the core has just given goes back to it.
+fn put_back(core: &mut Core, group: Group)
+    ensures { running_group core.old ≡ Some group → core.new ≡ group_put_back core.old }
+{
+    let _own = core.put_back(group);
 }
 
 /// The promise, where a snapshot can have it.
