@@ -259,6 +259,8 @@ class Site:
         crate, rest = self.crates.get(path[0]), path[1:]
         if crate is None or rest[:1] != ("specs",):
             return None
+        if rest[1:2] == ("contracts",):
+            return None  # (what the checker makes of a crate's contracts)
         if rest[1:2] == ("declared",):
             types = [part for part in rest[3:] if (crate.name, part) in self.declared]
             return self.declared[crate.name, types[0]] if types else self.private(crate, rest[2], rest[3:])

@@ -176,28 +176,58 @@ pub extern "C" fn rr_look(
     holding: &mut RrHolding,
     out: &mut [u8],
 ) -> u32 {
+    *holding = RrHolding {
+        is_bound: 0,
+        owner: 0,
+        len: 0,
+    };
+    if out.len() < 64 {
+        return code(Err(Refusal::TooLarge));
+    }
     match Name::new(name) {
         Err(refusal) => code(Err(refusal)),
         Ok(name) => {
-            let (said, found) = node.look(&name, out);
-            *holding = found;
+            let (said, found) = node.look(&name);
+            if let Some(found) = found {
+                let value = found.value();
+                let bytes = value.as_bytes();
+                fill(out, bytes);
+                *holding = RrHolding {
+                    is_bound: 1,
+                    owner: found.owner(),
+                    len: bytes.len(),
+                };
+            }
             said
         }
     }
 }
 
-/// The bound names in byte order behind the first `skip`, as many as have room in `out`: of each the length of the name and the name, the owner as
+/// The bound names in byte order behind the first `skip`, as many as have room in `out`, which has room for 134 at least: of each the length of the name and the name, the owner as
 /// four bytes with the lowest first, the length of the value and the value. A length is one byte.
 #[unsafe(no_mangle)]
 pub extern "C" fn rr_list(
+    alloc: Global,
     node: &mut RrNode,
     skip: usize,
     list: &mut RrPart,
     out: &mut [u8],
 ) -> u32 {
-    let (said, part) = node.list(skip, out);
-    *list = part;
-    said
+    *list = RrPart { count: 0, len: 0 };
+    if out.len() < 134 {
+        return code(Err(Refusal::TooLarge));
+    }
+    match node.list(alloc, skip, out.len()) {
+        Err(refusal) => code(Err(refusal)),
+        Ok((count, bytes)) => {
+            fill(out, &bytes);
+            *list = RrPart {
+                count,
+                len: bytes.len(),
+            };
+            0
+        }
+    }
 }
 
 /// How the node stands: how many commands are decided and safe here, how many of its facts are safe, how many nodes there are and which it is, whom

@@ -1,6 +1,6 @@
 //! What a handle can be asked.
 
-ghost use Rattle.std.specs.Prelude.{◌≡◌, true, false, None};
+ghost use Rattle.std.specs.Prelude.{◌≡◌, true, false, None, Err};
 
 use crate::filled::{fill, put_binding};
 use crate::handle::RrNode;
@@ -8,7 +8,9 @@ use crate::numbers::{code, reply_code};
 use core::mem::replace_with;
 use rr_disk::Area;
 use rr_host::{Host, Leaving, holding, next_about, standing};
+use rr_registry::Holding;
 use rr_types::{Command, Name, Refusal, RequestNo};
+use std::alloc::Global;
 
 /// A write that is due. `kind` is 0 where none is, else 1.
 #[repr(C)]
@@ -69,6 +71,9 @@ pub struct RrStanding {
 
 /// The most bytes of a message. A caller's buffer has as many.
 const MESSAGE: usize = 256;
+
+/// The most bytes of a bound name with its holding.
+const ENTRY: usize = 134;
 
 /// How many messages for the node itself are heard in one call.
 const OWN: usize = 64;
@@ -206,26 +211,29 @@ impl RrNode {
     }
 
     /// Who has a name, with its value.
-    pub fn look(&mut self, name: &Name, out: &mut [u8]) -> (u32, RrHolding)
+    pub fn look(&mut self, name: &Name) -> (u32, Option<Holding>)
         ensures closed { self.old.is_open ≡ false → (result.0 ≡ 5) × (self.new ≡ self.old) }
     {
-        on_host!(
-            self,
-            (name, out),
-            (DOWN, NOBODY),
-            |host, (name, out)| look(&host, name, out)
-        )
+        on_host!(self, name, (DOWN, None), |host, name| look(&host, name))
     }
 
-    /// The bound names behind the first `skip`, as many as have room.
-    pub fn list(&mut self, skip: usize, out: &mut [u8]) -> (u32, RrPart)
-        ensures closed { self.old.is_open ≡ false → (result.0 ≡ 5) × (self.new ≡ self.old) }
+    /// The bound names behind the first `skip`, as many as have room in so many bytes: how many these are, and their bytes.
+    ///
+    /// # Errors
+    /// `Down`, `OutOfMemory`.
+    pub fn list(
+        &mut self,
+        alloc: Global,
+        skip: usize,
+        room: usize,
+    ) -> Result<(usize, Vec<u8>), Refusal>
+        ensures closed { self.old.is_open ≡ false → (result ≡ Err Refusal.Down) × (self.new ≡ self.old) }
     {
         on_host!(
             self,
-            (skip, out),
-            (DOWN, NO_LIST),
-            |host, (skip, out)| list(&host, skip, out)
+            (alloc, skip, room),
+            Err(Refusal::Down),
+            |host, (alloc, skip, room)| list(&host, alloc, skip, room)
         )
     }
 
@@ -285,14 +293,6 @@ const NO_ACK: RrAck = RrAck {
     seq: 0,
     owner: 0,
 };
-
-const NOBODY: RrHolding = RrHolding {
-    is_bound: 0,
-    owner: 0,
-    len: 0,
-};
-
-const NO_LIST: RrPart = RrPart { count: 0, len: 0 };
 
 const NO_STATUS: RrStanding = RrStanding {
     decided: 0,
@@ -380,50 +380,31 @@ fn next_ack(host: &mut Host) -> (u32, RrAck) {
     }
 }
 
-fn look(host: &Host, name: &Name, out: &mut [u8]) -> (u32, RrHolding) {
-    let Some(core) = host.core() else {
-        return (DOWN, NOBODY);
-    };
-    match holding(core, name) {
-        None => (0, NOBODY),
-        Some(holding) => {
-            let value = holding.value();
-            let bytes = value.as_bytes();
-            if out.len() < bytes.len() {
-                return (code(Err(Refusal::TooLarge)), NOBODY);
-            }
-            fill(out, bytes);
-            let found = RrHolding {
-                is_bound: 1,
-                owner: holding.owner(),
-                len: bytes.len(),
-            };
-            (0, found)
-        }
+fn look(host: &Host, name: &Name) -> (u32, Option<Holding>) {
+    match host.core() {
+        None => (DOWN, None),
+        Some(core) => (0, holding(core, name)),
     }
 }
 
-fn list(host: &Host, skip: usize, out: &mut [u8]) -> (u32, RrPart) {
+fn list(host: &Host, alloc: Global, skip: usize, room: usize) -> Result<(usize, Vec<u8>), Refusal> {
     let Some(core) = host.core() else {
-        return (DOWN, NO_LIST);
+        return Err(Refusal::Down);
     };
+    let mut bytes = Vec::new(alloc);
     let mut passed: usize = 0;
     let mut count: usize = 0;
-    let mut len: usize = 0;
     for (name, holding) in core.bindings() {
         if passed < skip {
-            passed += 1;
+            passed = passed.saturating_add(1);
+        } else if bytes.len().saturating_add(ENTRY) <= room {
+            put_binding(&mut bytes, &name, &holding)?;
+            count = count.saturating_add(1);
         } else {
-            match put_binding(out, len, &name, &holding) {
-                None => return (0, RrPart { count, len }),
-                Some(end) => {
-                    len = end;
-                    count = count.saturating_add(1);
-                }
-            }
+            break;
         }
     }
-    (0, RrPart { count, len })
+    Ok((count, bytes))
 }
 
 fn status_of(host: &Host) -> (u32, RrStanding) {
