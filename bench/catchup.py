@@ -3,7 +3,7 @@
 
     bench/catchup.py [--rr PROGRAM] [--folder FOLDER] [--times N] [--commands K] [WHAT ..]
 
-WHAT is any of failover, again, behind, majority, waste, idle; all if left out. Each is tried N times, 10 if left out, and told by
+WHAT is any of failover, again, behind, majority, exact, waste, idle; all if left out. Each is tried N times, 10 if left out, and told by
 its median and its worst. The program is crates/rr/out/rr if left out, and the folders are made in FOLDER, /dev/shm if left out.
 
 failover: node 1, which coordinates first rounds, is stopped: how long the first command takes then, and the slowest of the next three.
@@ -11,11 +11,14 @@ again: the same at the sixth stop of one life of the others.
 behind: a node is stopped while K commands are decided, 10,000 if left out, and started: how long until it has them, with nothing asked
 meanwhile and under load, and how fast the others are under load.
 majority: two nodes of three are stopped and started: how long a command takes from then on that waited for them.
+exact: of 3, 5 and 7 nodes one is stopped too many, and a command is asked for in vain; one is started, so that exactly a majority is up:
+how long the first command takes from then on, and the slowest of the next three. Which nodes are down is drawn; N tries for each number.
 waste: a client for each node: how many of the decided places hold a command that is decided already.
 idle: what seven nodes take of a processor that nobody asks."""
 import argparse
 import os
 import pathlib
+import random
 import re
 import statistics
 import subprocess
@@ -185,6 +188,33 @@ def majority(words):
     tell("majority back, 3 nodes, first command", [1000 * it for it in took], "ms")
 
 
+def come_back(words, nodes, seed):
+    """The milliseconds of the first command once exactly a majority is up, and of the slowest of the next three."""
+    drawn = random.Random(seed)
+    stopped = drawn.sample(range(nodes), nodes // 2 + 1)
+    with Shell(words, nodes) as shell:
+        shell.ask(f"at {min(set(range(nodes)) - set(stopped))}")
+        time.sleep(drawn.random() / 2)
+        for node in stopped:
+            shell.ask(f"stop {node}")
+        shell.ask("update a waiting")
+        time.sleep(drawn.random() / 2)
+        begun = time.monotonic()
+        shell.ask(f"start {stopped[0]}")
+        while shell.ask("update a back")[0] != "updated":
+            if time.monotonic() - begun > PATIENCE:
+                raise SystemExit("bench/catchup.py: a majority is up and nothing is decided")
+        first = time.monotonic() - begun
+        return 1000 * first, 1000 * max(shell.update() for _ in range(3))
+
+
+def exact(words):
+    for nodes in (3, 5, 7):
+        tries = [come_back(words, nodes, seed) for seed in range(words.times)]
+        tell(f"exactly a majority of {nodes} nodes, first command", [it[0] for it in tries], "ms")
+        tell(f"exactly a majority of {nodes} nodes, later ones", [it[1] for it in tries], "ms", 1)
+
+
 def wasted(words, nodes, commands):
     """The share of places that is wasted, in percent, and the commands a second."""
     with tempfile.TemporaryDirectory(dir=words.folder) as room:
@@ -221,7 +251,7 @@ def idle(words):
     tell("seven idle nodes", shares, "% of a processor", 2)
 
 
-TASKS = {"failover": failover, "again": again, "behind": behind, "majority": majority, "waste": waste, "idle": idle}
+TASKS = {"failover": failover, "again": again, "behind": behind, "majority": majority, "exact": exact, "waste": waste, "idle": idle}
 
 
 def main():

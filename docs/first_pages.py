@@ -29,9 +29,9 @@ HEADING = "//! # Example"
 
 
 def libraries():
-    """The libraries, as crates.txt lists them."""
+    """The libraries for Rattle, as crates.txt lists them. One for C has its examples in C."""
     names = [line.partition(":")[0].split() for line in (CRATES.parent / "crates.txt").read_text().splitlines()]
-    return [name[0] for name in names if name and name[0].startswith("rr_")]
+    return [name[0] for name in names if name and name[0].startswith("rr_") and "staticlib" not in name]
 
 
 def item_of(source, begin):

@@ -1,4 +1,4 @@
-"""The folders of a cluster are lost, blank, cut, swapped or another cluster's, and other numbers of nodes are asked for; each
+"""The folders of a cluster are lost, blank, cut, forgetful, swapped or another cluster's, and other numbers of nodes are asked for; each
 call on the cluster's files goes wrong, the process is killed at it, and the power is cut.
 
 A cluster is refused with a line that names the folder, and nothing is written or made; with the folder back it goes on. A
@@ -10,8 +10,10 @@ import os
 import re
 import shutil
 
+import forgetting
 import scripts
-from harness import LONG, Tally, tell
+from forgetting import held
+from harness import LONG, Tally
 
 MOST_NODES = 7
 CUTS = (0, 1, 2, 5, 20, 28)
@@ -31,12 +33,15 @@ ADVICE = rb"put the folder back"
 def tasks(options):
     every = [("calls", start, kind, how) for start in STARTS for kind, hows in HOWS.items() for how in hows]
     if options.short:
-        return [("folders", SHORT), ("files", SHORT)] + [it for it in every if it[1] == "fresh" and it[3] in ("ENOSPC", "torn", "killed")]
-    return [(part, nodes) for part in ("folders", "files") for nodes in range(1, MOST_NODES + 1)] + every
+        return [("folders", SHORT), ("files", SHORT)] + forgetting.tasks(options) + [it for it in every if it[1] == "fresh" and it[3] in ("ENOSPC", "torn", "killed")]
+    return [(part, nodes) for part in ("folders", "files") for nodes in range(1, MOST_NODES + 1)] + forgetting.tasks(options) + every
 
 
 def work(rig, options, task):
     tally = Tally()
+    if task[0] in ("forgetting", "older", "marks"):
+        forgetting.work(rig, tally, options, task)
+        return tally
     made = Cluster(rig, tally, 2 if task[0] == "calls" else task[1])
     if task[0] == "folders":
         made.lose_folders()
@@ -44,7 +49,6 @@ def work(rig, options, task):
     elif task[0] == "files":
         made.tear_files()
         made.forget_files()
-        made.begin_over_marks()
     else:
         made.break_calls(options, *task[1:])
     return tally
@@ -159,22 +163,10 @@ class Cluster:
             self.is_refused(f"without a file, node {node} lost", self.path(node).rstrip("/").encode(), ADVICE, False)
         self.tally.counts["taken on"] += 1
 
-    def begin_over_marks(self):
-        """No cluster begins over the marks of another: its file is gone, and all areas are emptied or gone."""
-        for how in ("emptied", "gone"):
-            for marked in {self.nodes, 1}:
-                self.put_back()
-                os.remove(os.path.join(self.folder, "cluster"))
-                for node in range(self.nodes):
-                    for name in ("a0", "a1"):
-                        os.truncate(self.path(node, name), 0) if how == "emptied" else os.remove(self.path(node, name))
-                    if node < self.nodes - marked:
-                        os.remove(self.path(node, "node"))
-                self.is_refused(f"no cluster's file, areas {how}, {marked} marks", self.path(0).rstrip("/").encode(), ADVICE, False)
-
     def old(self):
         self.put_back()
-        os.remove(os.path.join(self.folder, "cluster"))
+        for name in ("cluster", "marks"):
+            os.remove(os.path.join(self.folder, name))
         for node in range(self.nodes):
             os.remove(self.path(node, "node"))
 
@@ -234,15 +226,6 @@ class Cluster:
         self.check(again == (0, self.answers, b""), f"{what}, again: {again}, {self.rig.why!r}")
         thief = self.run(script=self.thief)
         self.check(thief[1] == b"ack %d 9.1 taken 7\n" % (self.nodes - 1), f"{what}: a claim is forgotten, {thief}")
-
-
-def held(folder):
-    """The files and folders in a folder, with their bytes."""
-    found = {}
-    for root, folders, names in os.walk(folder):
-        found[root] = None
-        found.update({os.path.join(root, it): scripts.bytes_of(os.path.join(root, it)) for it in names})
-    return found
 
 
 def is_formed(found):

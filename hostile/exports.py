@@ -3,10 +3,12 @@
 What both print is held against the folders as reading.py reads them by docs/FORMATS.md, and against registry.py. The names of the
 new cluster, as `rr shell` lists them, are those of the old one. Then a value of a decided command is altered in one folder, two
 folders are swapped, one is emptied or one is removed: each time `rr verify` ends with 4, and no byte of any folder has changed.
-Over an altered folder `rr run` and `rr shell` serve nobody: they end with 4 too, and name `rr verify`.
+Over an altered folder `rr run` and `rr shell` serve nobody: they end with 5, and name the folder. Where its mark doesn't say how far it
+came, they end with 4 too, and name `rr verify`.
 """
 import os
 import random
+import re
 import shutil
 import subprocess
 
@@ -123,13 +125,23 @@ def check_faults(rig, tally, what, rng, folder, nodes):
 
 
 def check_unserved(rig, tally, what, folder, nodes):
-    """Nobody is served over folders that decide an instance differently."""
+    """Nobody is served over a folder that isn't as its mark says, or over folders that decide an instance differently."""
     look = rig.write("look", b"look 0 a\n")
-    for words in (("run", "--script", look), ("shell", "-c", "look a")):
-        ran = rig.run(words[0], "--nodes", str(nodes), "--dir", folder, *words[1:], limit=LONG)
-        said = f"{folder}: its folders decide an instance differently: see rr verify {folder}\n".encode()
-        holds = ran == (4, b"", b"rr: 3 Damaged 0 0\n") and rig.why == said
-        tally.check(holds, lambda: f"{what}: {words[0]} over an altered folder: {tell(ran)}, {rig.why!r}")
+    asked = [("run", "--script", look), ("shell", "-c", "look a")]
+    differs = f"{folder}: its folders decide an instance differently: see rr verify {folder}\n"
+    altered = re.escape(folder) + r"/\d: the newest area of its disk has other bytes than its file node says, .*\n"
+    for status, first, said in ((5, b"rr: 2 Device\n", altered), (4, b"rr: 3 Damaged 0 0\n", re.escape(differs))):
+        for words in asked:
+            ran = rig.run(words[0], "--nodes", str(nodes), "--dir", folder, *words[1:], limit=LONG)
+            holds = ran == (status, b"", first) and re.fullmatch(said, rig.why.decode())
+            tally.check(holds, lambda: f"{what}: {words[0]} over an altered folder: {tell(ran)}, {rig.why!r}")
+        if os.path.exists(f"{folder}/marks"):
+            os.remove(f"{folder}/marks")
+        for node in range(nodes):
+            # (a mark of before, which says whose folder it is and nothing else)
+            *_, place = whole = scripts.bytes_of(f"{folder}/{node}/node").split()
+            with open(f"{folder}/{node}/node", "wb") as file:
+                file.write(b" ".join([b"node-1", *whole[1:3], place]) + b"\n")
 
 
 def bytes_in(folder):

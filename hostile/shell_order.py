@@ -4,6 +4,7 @@ The lines are given as words, so each is answered before the next is taken: name
 snapshots, are stopped and started, and catch up. Of the bytes alone:
 - the file of request numbers is written beside its place and synced before it is renamed;
 - no number stands in a node's folder before the file that reserves it would be there behind a power cut;
+- a node's mark is written beside its place and synced before it is renamed;
 - no answer is printed before its command is synced at the node that was asked.
 
 At some of these calls the power fails. What was synced stays, and of what was written since all, nothing, or anything else; and of a
@@ -43,7 +44,8 @@ def work(rig, options, seed):
     tally.check(begun[:] == (0, b"claimed\n", b""), lambda: f"a shell without faults: {tell(begun)}")
     names.acknowledge(0, "old", "z")
     lines = draw(rng, names, rng.randint(*COUNT))
-    before = run_order.files_of(folder, NODES), shell_kills.stored(folder)
+    marks = [scripts.bytes_of(f"{folder}/{node}/node") for node in range(NODES)]
+    before = run_order.files_of(folder, NODES), shell_kills.stored(folder), marks
     words = [rig.rr, "shell", "--nodes", str(NODES), "--dir", folder, "--client", "7", *(word for line, _ in lines for word in ("-c", line))]
     ending, events = run_order.traced_words(rig, CALLS, words)
     wanted = "".join(f"{answer}\n" for _, answer in lines).encode()
@@ -77,21 +79,26 @@ def draw(rng, names, count):
 
 
 class Numbers:
-    """The file of request numbers: what it holds, what it may hold behind a power cut, and the new file beside it."""
+    """The file of request numbers, or a node's mark: what it holds, what it may hold behind a power cut, and the new file beside it."""
 
     def __init__(self, stored):
         self.held, self.left = stored, {stored}
         self.fresh, self.is_synced = b"", False
 
+    def torn(self, rng):
+        """What a power cut may leave of the new file."""
+        return self.fresh if self.is_synced else self.fresh[: rng.randint(0, len(self.fresh))]
+
 
 class Watched:
     """Goes over the calls of a shell, and knows at each what the disks hold for sure."""
 
-    def __init__(self, rig, tally, what, lines, begun, stored, rng):
+    def __init__(self, rig, tally, what, lines, begun, stored, marks, rng):
         self.rig, self.tally, self.what, self.lines, self.rng = rig, tally, what, lines, rng
         self.folder = rig.path("shell")
         self.nodes = [run_order.Node(files) for files in begun]
         self.numbers = Numbers(stored)
+        self.marks = [Numbers(mark) for mark in marks]
         self.names, self.node, self.answered = shell_kills.Names(), 0, 0
         self.names.acknowledge(0, "old", "z")
 
@@ -105,7 +112,8 @@ class Watched:
                 if self.rng.randrange(SHARE) == 0:
                     self.cut_power()
         self.check(self.answered == len(self.lines), f"{self.answered} answers were printed")
-        self.check(self.numbers.left == {self.numbers.held}, "a rename isn't synced at the end")
+        for its in (self.numbers, *self.marks):
+            self.check(its.left == {its.held}, "a rename isn't synced at the end")
 
     def take(self, moment, call, path, at, what):
         """Takes a call on; whether it is one of those that are looked at."""
@@ -114,10 +122,8 @@ class Watched:
             self.of_area(int(area[1]), int(area[2]), moment, call, at, what)
         elif path == self.rig.path("out") and moment == "begin":
             self.printed(what.decode())
-        elif path in (self.folder, f"{self.folder}/requests.new") or call in ("openat", "rename"):
-            return self.of_numbers(moment, call, path, what)
         else:
-            return False
+            return self.of_numbers(moment, call, path, what) or any(self.of_mark(node, moment, call, path, what) for node in range(NODES))
         return True
 
     def of_area(self, node, area, moment, call, at, what):
@@ -136,19 +142,31 @@ class Watched:
             self.check(client == 7 and number < min(self.numbers.left), f"node {node} writes the number {request}, and the file may hold {self.numbers.left}")
 
     def of_numbers(self, moment, call, path, what):
-        its = self.numbers
-        if call == "openat" and moment == "begin" and what == f"{self.folder}/requests.new".encode():
+        if not self.replaced(self.numbers, self.folder, "requests.new", int, moment, call, path, what):
+            return False
+        self.tally.counts["reservations"] += call == "rename"
+        return True
+
+    def of_mark(self, node, moment, call, path, what):
+        if not self.replaced(self.marks[node], f"{self.folder}/{node}", "node.new", bytes, moment, call, path, what):
+            return False
+        self.tally.counts["marks put"] += call == "rename"
+        return True
+
+    def replaced(self, its, folder, name, meaning, moment, call, path, what):
+        """A call that puts a new file in place of one; whether it is one of those that are looked at."""
+        fresh = f"{folder}/{name}"
+        if call == "openat" and moment == "begin" and what == fresh.encode():
             its.fresh, its.is_synced = b"", False
-        elif call == "write" and moment == "begin" and path.endswith("requests.new"):
+        elif call == "write" and moment == "begin" and path == fresh:
             its.fresh, its.is_synced = its.fresh + what, False
-        elif call == "fsync" and moment == "end" and path.endswith("requests.new"):
+        elif call == "fsync" and moment == "end" and path == fresh:
             its.is_synced = True
-        elif call == "rename" and moment == "begin" and what == f"{self.folder}/requests.new".encode():
-            self.check(its.is_synced and its.fresh.endswith(b"\n"), f"the file of numbers is renamed with {its.fresh!r}, synced: {its.is_synced}")
-            its.held = int(its.fresh)
+        elif call == "rename" and moment == "begin" and what == fresh.encode():
+            self.check(its.is_synced and its.fresh.endswith(b"\n"), f"{name} is renamed with {its.fresh!r}, synced: {its.is_synced}")
+            its.held = meaning(its.fresh)
             its.left.add(its.held)
-            self.tally.counts["reservations"] += 1
-        elif call == "fsync" and moment == "end" and path == self.folder:
+        elif call == "fsync" and moment == "end" and path == folder:
             its.left = {its.held}
         else:
             return False
@@ -174,12 +192,12 @@ class Watched:
         shutil.rmtree(cut, ignore_errors=True)
         self.rig.write("cut-shell/cluster", scripts.bytes_of(f"{self.folder}/cluster"))
         for node, its in enumerate(self.nodes):
-            self.rig.write(f"cut-shell/{node}/node", scripts.bytes_of(f"{self.folder}/{node}/node"))
+            self.rig.write(f"cut-shell/{node}/node", self.rng.choice(sorted(self.marks[node].left)))
+            self.rig.write(f"cut-shell/{node}/node.new", self.marks[node].torn(self.rng))
             for area, data in enumerate(its.left(self.rng)):
                 self.rig.write(f"cut-shell/{node}/a{area}", data)
         self.rig.write("cut-shell/requests", b"%d\n" % self.rng.choice(sorted(self.numbers.left)))
-        fresh = self.numbers.fresh
-        self.rig.write("cut-shell/requests.new", fresh if self.numbers.is_synced else fresh[: self.rng.randint(0, len(fresh))])
+        self.rig.write("cut-shell/requests.new", self.numbers.torn(self.rng))
         names = shell_kills.Names()
         names.values, names.nodes = dict(self.names.values), dict(self.names.nodes)
         # (new names are told from those of the lines)

@@ -172,6 +172,20 @@ def no_majority_is_told(case):
     shell.end()
 
 
+def majority_that_comes_back_decides_soon(case):
+    """Of seven nodes four are stopped, and a claim waits. Once one of them is started exactly a majority is up, and decides soon."""
+    shell = Shell(case, "--nodes", "7", "--client", "7")
+    shell.want("claim a x", "claimed")
+    for stopped in ((3, 4, 2, 1), (2, 0, 1, 3), (1, 0, 3, 5)):
+        asked = min(set(range(7)) - set(stopped))
+        shell.wants((f"at {asked}", f"at {asked}"), *((f"stop {node}", f"stopped {node}") for node in stopped))
+        shell.want("update a waiting", "unacknowledged")
+        shell.want(f"start {stopped[0]}", f"started {stopped[0]}")
+        shell.want("update a back", "updated", SOON)
+        shell.wants(*((f"start {node}", f"started {node}") for node in stopped[1:]), ("sync", "synced"), ("look a", "a bound 7 back"))
+    shell.end()
+
+
 def nodes_are_switched_alone(case):
     """A node that is stopped is down, and suspected by the others alone; what it acknowledged is there when it is started again."""
     shell = Shell(case, "--nodes", "3", "--client", "7", "--json", "--tick", "20")
@@ -302,7 +316,7 @@ def folder_in_use_is_refused(case):
 
 def failing_device_is_told(case):
     """A device that fails ends the shell with its folder named, at the next line; what was acknowledged stands."""
-    for kind, node in (("write", 1), ("sync", 2)):
+    for kind, node, calls in (("write", 1, "writing"), ("sync", 2, "syncing")):
         env = {"LD_PRELOAD": case.preload, "FAIL_CALL": kind, "FAIL_PATH": f"/{node}/", "FAIL_NTH": "30", "FAIL_MANY": "1000000", "FAIL_HOW": "5"}
         shell = Shell(case, "--nodes", "3", "--client", "7", env=env)
         names = []
@@ -311,9 +325,9 @@ def failing_device_is_told(case):
             need(len(names) < 1000, "a device fails, and the shell goes on")
         need(answer is None and names, f"a claim with a failing device was answered {answer!r} behind {len(names)}")
 
-        def told(text, node=node):
+        def told(text, node=node, calls=calls):
             lines = text.decode().splitlines()
-            named = len(lines) == 2 and lines[0] == "rr: 2 Device" and re.fullmatch(f"{case.folder}/{node}/[a-z0-9]+: [a-z ]+: Input/output error .*", lines[1])
+            named = len(lines) == 2 and lines[0] == "rr: 2 Device" and re.fullmatch(f"{case.folder}/{node}/a[01]: {calls}: Input/output error .*", lines[1])
             need(named, f"a failing device was told as {lines}")
 
         shell.end(status=5, said=told)
@@ -468,6 +482,7 @@ def people_see_a_prompt(case):
 ALONE = (claims_are_prompt,)
 BESIDE = (
     no_majority_is_told,
+    majority_that_comes_back_decides_soon,
     nodes_are_switched_alone,
     load_goes_on_without_coordinators,
     watch_shows_what_comes,

@@ -8,6 +8,7 @@ mod draw;
 mod explain;
 mod folders;
 mod frame;
+mod handle;
 mod host;
 mod journal;
 mod json;

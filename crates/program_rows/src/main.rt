@@ -11,7 +11,7 @@ mod run;
 use crate::check::is_wanted;
 use crate::lines::text_of;
 use crate::run::{Library, outcome_of, prepare};
-use rr_run::Lockable;
+use rr_run::{Lockable, MarkWriter};
 use std::fs::OpenFile;
 use std::io::{ErrorKind, Read, Seek, Write};
 use std::os::unix::fs::FileExt;
@@ -24,7 +24,7 @@ use std::{env, fs, io};
 /// Whether a row gives what it wants; what came otherwise is printed.
 fn is_right<
     F: Read + Write + Seek + FileExt + OpenFile + Drop + Send + Lockable,
-    R: Files<File = F> + Print + AllocGlobal + Threads + Wait + Clock + Sync,
+    R: Files<File = F> + Print + AllocGlobal + Threads + Wait + Clock + Sync + MarkWriter,
 >(rt: &R, library: Library, row: &str) -> io::Result<bool>
 where
     R::Dir: Send,
@@ -37,7 +37,7 @@ where
 /// How many rows of a file come otherwise.
 fn count_faults<
     F: Read + Write + Seek + FileExt + OpenFile + Drop + Send + Lockable,
-    R: Files<File = F> + Print + AllocGlobal + Threads + Wait + Clock + Sync,
+    R: Files<File = F> + Print + AllocGlobal + Threads + Wait + Clock + Sync + MarkWriter,
 >(rt: &R, library: Library, path: &str) -> io::Result<u64>
 where
     R::Dir: Send,

@@ -1,6 +1,7 @@
 //! The program `rr`: its words, its streams and its threads, handed to `rr_run`.
 #![tactic(auto)]
 
+use rr_explain::Shown;
 use rr_run::run;
 use rr_shell::Prompted;
 use rr_stream::{Counted, HostFiles, Watched};
@@ -24,7 +25,7 @@ fn main(rt: HostRuntime) -> ExitCode {
         && rt.stdout().is_terminal()
         && rt.stderr().is_terminal()
     {
-        Some(rt.stderr())
+        Some(Shown::new(rt.stderr()))
     } else {
         None
     };
@@ -34,6 +35,6 @@ fn main(rt: HostRuntime) -> ExitCode {
         &mut HostFiles::new(&rt),
         &mut Prompted::new(Counted::new(rt.stdin()), typing),
         &mut Watched::new(Counted::new(rt.stdout()), people),
-        &mut rt.stderr(),
+        &mut Shown::new(rt.stderr()),
     ))
 }

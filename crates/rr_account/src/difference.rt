@@ -5,6 +5,7 @@ ghost use Rattle.rr_text.specs.Reading.{cut_at};
 ghost use Rattle.rr_account.specs.Differences.{first_line, rest_by, DifferIn};
 
 use crate::account::Account;
+use rr_explain::print_given;
 use rr_text::text_read::cut;
 use rr_text::text_schedule::push_event;
 use rr_types::Refusal;
@@ -97,15 +98,23 @@ fn first_of<'a>(ours: &'a [u8], theirs: &'a [u8]) -> Difference<'a>
     }
 }
 
+// Appends bytes that somebody gave. The control bytes among them are shown by their numbers.
+fn push_given(text: &mut Vec<u8>, bytes: &[u8]) -> Result<(), Refusal> {
+    match print_given(text, bytes) {
+        Ok(()) => Ok(()),
+        Err(_) => Err(Refusal::OutOfMemory),
+    }
+}
+
 // Appends a line as one of the texts has it.
 fn push_side(text: &mut Vec<u8>, name: &str, side: Option<&[u8]>) -> Result<(), Refusal> {
     text.extend_from_slice(b"  ")?;
-    text.extend_from_slice(name.as_bytes())?;
+    push_given(text, name.as_bytes())?;
     text.extend_from_slice(b": ")?;
     match side {
         None => text.extend_from_slice(b"(the text has ended)\n")?,
         Some(line) => {
-            text.extend_from_slice(line)?;
+            push_given(text, line)?;
             if !line.ends_with(b"\n") {
                 text.extend_from_slice(b" (without a line feed)\n")?;
             }

@@ -3,6 +3,7 @@ use Rattle.std.proofs.Common.{◌≡◌, ◌∙◌, ℕ, zero, suc, ◌≤◌, B
 use Rattle.std.proofs.lemmas.Bool.{false≢true}
 use Rattle.rr_stream.specs.Streams.{Printing}
 use Rattle.rr_words.specs.declared.tasks.Form.{Form}
+use Rattle.rr_folders.specs.Judged.{MayStart}
 use Rattle.rr_folders.specs.declared.verdict.Verdict.{Verdict}
 use Rattle.rr_folders.specs.Agreement.{Agree, HaveOneList, clashes_from}
 use Rattle.rr_folders.specs.Texts.{verdict_text}
@@ -32,21 +33,25 @@ taken n rs least some all = record { some = some_taken n rs least some; each = a
 
 -- ---- verification
 
-agree_is : (b : Bool) (rs : List Reading) → (b ≡ true → Agree rs) × (Agree rs → b ≡ true) → b ≡ false → Agree rs → ⊥
-agree_is b rs both differs agree = false≢true (sym differs ∙ both.1 agree)
+agree_is : {A : Type 0} (b : Bool) → (b ≡ true → A) × (A → b ≡ true) → b ≡ false → A → ⊥
+agree_is b both differs agree = false≢true (sym differs ∙ both.1 agree)
 
--- what was printed says that they agree
-pub agreed_ends : (form : Form) (rs : List Reading) (v : Verdict) (text : List ℕ) (status : ℕ) (old new : Printing) → AreRead rs → (v.agree ≡ true → Agree rs) × (Agree rs → v.agree ≡ true) → (v.agree ≡ true → HaveOneList rs)
-    → v.clashes.items ≡ clashes_from 0 rs → text ≡ verdict_text (form_in form) rs v.clashes.items v.agree → v.agree ≡ true → Prints text status old new → EndsOnVerification form status old new
-agreed_ends form rs v text status old new read both one exact is said prints =
-    verified rs read (both.0 said) (one said)
+-- what was printed says that they agree, and that a start over them wouldn't be refused
+pub agreed_ends : (form : Form) (refused : Bool) (rs : List Reading) (v : Verdict) (text : List ℕ) (status : ℕ) (old new : Printing) → AreRead rs
+    → (v.agree ≡ true → Agree rs × (refused ≡ false)) × (Agree rs × (refused ≡ false) → v.agree ≡ true) → (v.agree ≡ true → HaveOneList rs) → (refused ≡ false → MayStart (length rs))
+    → v.clashes.items ≡ clashes_from 0 rs → text ≡ verdict_text (form_in form) rs v.clashes.items v.agree → v.agree ≡ true → Prints text status old new
+    → EndsOnVerification form refused status old new
+agreed_ends form refused rs v text status old new read both one start exact is said prints =
+    verified rs read (both.0 said).0 (one said) (start (both.0 said).1)
     (subst (λ t. Prints t status old new) (is ∙ ap₂ (λ cs b. verdict_text (form_in form) rs cs b) exact said) prints)
 
--- or that they don't
-pub disagreed_ends : (form : Form) (rs : List Reading) (v : Verdict) (text : List ℕ) (printing status : ℕ) (old new : Printing) → AreRead rs → (v.agree ≡ true → Agree rs) × (Agree rs → v.agree ≡ true)
-    → v.clashes.items ≡ clashes_from 0 rs → text ≡ verdict_text (form_in form) rs v.clashes.items v.agree → v.agree ≡ false → Prints text printing old new → status ≡ unlike printing → EndsOnVerification form status old new
-disagreed_ends form rs v text printing status old new read both exact is said prints ends =
-    differing rs printing read (agree_is v.agree rs both said)
+-- or that they don't, or that it would
+pub disagreed_ends : (form : Form) (refused : Bool) (rs : List Reading) (v : Verdict) (text : List ℕ) (printing status : ℕ) (old new : Printing) → AreRead rs
+    → (v.agree ≡ true → Agree rs × (refused ≡ false)) × (Agree rs × (refused ≡ false) → v.agree ≡ true)
+    → v.clashes.items ≡ clashes_from 0 rs → text ≡ verdict_text (form_in form) rs v.clashes.items v.agree → v.agree ≡ false → Prints text printing old new → status ≡ unlike printing
+    → EndsOnVerification form refused status old new
+disagreed_ends form refused rs v text printing status old new read both exact is said prints ends =
+    differing rs printing read (agree_is v.agree both said)
     (subst (λ t. Prints t printing old new) (is ∙ ap₂ (λ cs b. verdict_text (form_in form) rs cs b) exact said) prints) ends
 
 pub unlike_some : (printing : ℕ) → unlike printing ≡ 0 → ⊥

@@ -9,7 +9,7 @@ use Rattle.rr_journal.specs.OpeningCourse.{IsRefused}
 use Rattle.rr_stream.specs.Streams.{Printing}
 use Rattle.rr_cli.specs.Areas.{IsShown}
 use Rattle.rr_cli.specs.Migrations.{TellsSome, IsUnmigrated}
-use Rattle.rr_cli.specs.Ends.{Prints, EndsOnMigration, migrated}
+use Rattle.rr_cli.specs.Ends.{Prints, IsStreamStatus, EndsOnMigration, migrated, unmigrated}
 use Rattle.rr_cli.proofs.ShowLemmas.{ShowsSome, err_is}
 
 -- an opening is refused so
@@ -71,3 +71,8 @@ unshown_so Z (Err e) seen (inr device) = inr (inl (err_is e refusals.Device devi
 -- the text was printed
 pub text_migrates : (text : Vec ℕ Global) (status : ℕ) (old new : Printing) → TellsSome text → Prints text.items status old new → EndsOnMigration status old new
 text_migrates text status old new (a, b, (first, second, tells, is)) prints = migrated a b first second tells (rw is at prints)
+
+-- the folder couldn't be locked
+pub unlocked_migrates : (status : ℕ) (old new : Printing) → IsStreamStatus status → new ≡ old → EndsOnMigration status old new
+unlocked_migrates status old new (inl device) same = unmigrated refusals.Device (inr (inl refl)) device same
+unlocked_migrates status old new (inr memory) same = unmigrated refusals.OutOfMemory (inr (inr refl)) memory same

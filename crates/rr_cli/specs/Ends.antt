@@ -37,6 +37,7 @@ use Rattle.rr_cli.specs.Finishing.{finished_by, IsFinishedDraw}
 use Rattle.rr_words.specs.Tasks.{CutWords, RandomWords, ShellWords, View, Task, Simulate, Viewing, Show, Random, Audit, Run, Shell, Sweep, Draw, Migrate, Verify, Export}
 use Rattle.rr_words.specs.declared.tasks.Form.{Form}
 use Rattle.rr_words.specs.declared.tasks.Form.TheVariants.{Plain, Json}
+use Rattle.rr_folders.specs.Judged.{MayStart}
 use Rattle.rr_folders.specs.declared.verify_folder.Reading as folder
 use Rattle.rr_folders.specs.Agreement.{Agree, AllAlike, HaveOneList, clashes_from, longest_decided}
 use Rattle.rr_folders.specs.Texts.{verdict_text}
@@ -103,8 +104,8 @@ pub data EndsOnInput (On : List ℕ → ℕ → Printing → Printing → Type 0
   unread : status ≡ 5 → Grew from.faults to.faults → new ≡ old → EndsOnInput On from to status old new
   unheld : status ≡ 6 → new ≡ old → EndsOnInput On from to status old new
 
--- a run on a folder: the text on its areas is printed; or an area is broken or a device or memory failed, and standard
--- output is as it was
+-- a run on a folder: the text on its areas is printed; or an area is broken, or a device or memory failed or a program runs its node, and
+-- standard output is as it was
 pub data EndsOnFolder (form : Form) (status : ℕ) (old new : Printing) : Type 0 where
   told : (first second : List ℕ) (of_first of_second : Option AreaReport)
       → inspected first second ≡ Tells of_first of_second → Prints (areas_in form of_first of_second) status old new
@@ -115,7 +116,7 @@ pub data EndsOnFolder (form : Form) (status : ℕ) (old new : Printing) : Type 0
   failed : IsStreamStatus status → new ≡ old → EndsOnFolder form status old new
 
 -- the migration of a folder: its disk was opened, and the text on its areas is printed; or it was refused, as an area is
--- damaged, a device or memory failed, or no epoch is left, and standard output is as it was
+-- damaged, a device or memory failed, a program runs its node, or no epoch is left, and standard output is as it was
 pub data EndsOnMigration (status : ℕ) (old new : Printing) : Type 0 where
   migrated : (first second : List ℕ) (of_first of_second : Option AreaReport)
       → inspected first second ≡ Tells of_first of_second → Prints (areas_text of_first of_second) status old new
@@ -233,19 +234,26 @@ pub data EndsOnCut (On : (List ℕ → ℕ → Printing → Printing → Type 0)
   cut_so : (cut : Cut) → IsCutBy words cut → On (EndsOnDrawn words.tape words.html cut) status old new → EndsOnCut On words status old new
   uncut : ((cut : Cut) → IsCutBy words cut → ⊥) → status ≡ 2 → new ≡ old → EndsOnCut On words status old new
 
--- what was read of folders is printed: they agree, and then what they have decided are beginnings of one list; or they don't;
--- or memory was wanting, and standard output is as it was
-pub data EndsOnVerification (form : Form) (status : ℕ) (old new : Printing) : Type 0 where
-  verified : (readings : List folder.Reading) → AreRead readings → Agree readings → HaveOneList readings
+-- what was read of folders is printed, over which a start would be refused or not: they agree and it wouldn't, and then what they have
+-- decided are beginnings of one list; or they don't, or it would; or memory was wanting, or a program runs the cluster, and standard
+-- output is as it was
+pub data EndsOnVerification (form : Form) (refused : Bool) (status : ℕ) (old new : Printing) : Type 0 where
+  verified : (readings : List folder.Reading) → AreRead readings → Agree readings → HaveOneList readings → MayStart (length readings)
       → Prints (verdict_text (form_in form) readings (clashes_from 0 readings) true) status old new
-      → EndsOnVerification form status old new
-  differing : (readings : List folder.Reading) (printing : ℕ) → AreRead readings → (Agree readings → ⊥)
+      → EndsOnVerification form refused status old new
+  differing : (readings : List folder.Reading) (printing : ℕ) → AreRead readings → (Agree readings × (refused ≡ false) → ⊥)
       → Prints (verdict_text (form_in form) readings (clashes_from 0 readings) false) printing old new
-      → status ≡ unlike printing → EndsOnVerification form status old new
-  unverified : status ≡ 6 → new ≡ old → EndsOnVerification form status old new
+      → status ≡ unlike printing → EndsOnVerification form refused status old new
+  unverified : status ≡ 6 → new ≡ old → EndsOnVerification form refused status old new
+  unlocked : IsStreamStatus status → new ≡ old → EndsOnVerification form refused status old new
+
+-- the same, whether a start would be refused or not
+abbrev pub EndsOnVerified : Form → ℕ → Printing → Printing → Type 0
+EndsOnVerified form status old new = (refused : Bool) × EndsOnVerification form refused status old new
 
 -- the export of folders: no two decide an instance differently, and that of the longest decided list is printed; or two do; or
--- none holds facts and one is refused; or memory was wanting. Unless it is printed, standard output is as it was
+-- none holds facts and one is refused; or memory was wanting, or a program runs the cluster. Unless it is printed, standard output is as
+-- it was
 pub data EndsOnExport (list : Bool) (status : ℕ) (old new : Printing) : Type 0 where
   exported : (readings : List folder.Reading) (text : List ℕ) → AreRead readings → AllAlike readings
       → IsExportOf list (longest_decided readings) text → Prints text status old new
@@ -256,6 +264,7 @@ pub data EndsOnExport (list : Bool) (status : ℕ) (old new : Printing) : Type 0
       → status ≡ status_of refusal → new ≡ old
       → EndsOnExport list status old new
   unexported : status ≡ 6 → new ≡ old → EndsOnExport list status old new
+  not_locked : IsStreamStatus status → new ≡ old → EndsOnExport list status old new
 
 -- a run on the folder that a word names; or none is named, and standard output is as it was
 pub data EndsOnDir (On : ℕ → Printing → Printing → Type 0) (dir : Option Text) (status : ℕ) (old new : Printing) : Type 0 where
@@ -325,7 +334,7 @@ pub data EndsBy (faults : Kinds) (task : Task) (from to : Readable) (status : �
       → EndsOnSeat folder of_node of_nodes status old new
       → EndsBy faults task from to status old new
   by_verification : (dir : Option Text) (form : Form) → faults ≡ [] → task ≡ Verify dir form
-      → EndsOnDir (EndsOnVerification form) dir status old new
+      → EndsOnDir (EndsOnVerified form) dir status old new
       → EndsBy faults task from to status old new
   by_export : (dir : Option Text) (list : Bool) → faults ≡ [] → task ≡ Export dir list
       → EndsOnDir (EndsOnExport list) dir status old new

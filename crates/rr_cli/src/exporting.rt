@@ -8,10 +8,11 @@ ghost use Rattle.rr_cli.specs.Ends.{EndsOnExport, EndsOnDir};
 ghost use Rattle.rr_cli.specs.Clusters.{AreRead, HoldsNothing, IsExportOf};
 ghost use Rattle.rr_folders.specs.Agreement.{AllAlike, longest_decided};
 
+use crate::folder_faults::end_by_unlocked;
 use crate::folders::{end_without_dir, print_folder_faults, read_folders};
 use crate::refusals::end_by_refusal;
 use crate::streams::end_by_text;
-use rr_folders::{Reading, decided_text, export, longest_decided, verify};
+use rr_folders::{Lockable, Reading, decided_text, export, longest_decided, verify};
 use rr_stream::Sink;
 use rr_types::{Command, Nodes, Refusal};
 use std::alloc::{AllocError, Global};
@@ -142,7 +143,7 @@ pub(crate) fn export_by_word<R: Files + AllocGlobal, O: Sink, E: Write>(
     err: &mut E,
 ) -> u8
 where
-    R::File: FileExt,
+    R::File: FileExt + Lockable,
     ensures ends { EndsOnDir (EndsOnExport list) (option_map (λ s. s.now) dir.entry) result (O.printing out.old) (O.printing out.new) }
     ensures quiet { result ≡ 0 → Keeps (E.contents err.old) (E.contents err.new) }
 {
@@ -151,6 +152,6 @@ where
     };
     match read_folders(rt, dir) {
         Ok(readings) => export_readings(rt, dir, list, readings.as_slice(), out, err),
-        Err(_) => end_by_refusal(err, &Refusal::OutOfMemory),
+        Err(closed) => end_by_unlocked(err, &closed),
     }
 }

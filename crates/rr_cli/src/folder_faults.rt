@@ -1,9 +1,11 @@
 //! What is wrong with a node's folder, told to people.
 
 ghost use Rattle.std.specs.Prelude.{◌≡◌};
+ghost use Rattle.rr_cli.specs.Ends.{IsStreamStatus};
 ghost use Rattle.rr_cli.specs.Refusals.{status_of};
 
 use crate::refusals::end_by_refusal;
+use rr_folders::{Closed, print_closed, see_plain};
 use rr_types::Refusal;
 use std::io::{Read, Seek, SeekFrom, Write};
 use std::rt::Files;
@@ -24,6 +26,20 @@ pub(crate) fn end_by_folder_fault<R: Files + AllocGlobal, E: Write>(
     let ending = end_by_refusal(err, refusal);
     let _ = print_folder_fault(rt, err, folder, refusal);
     ending
+}
+
+/// Ends because folders couldn't be locked. A second line tells people which it is and why.
+pub fn end_by_unlocked<E: Write>(err: &mut E, closed: &Closed) -> u8
+    ensures { IsStreamStatus result }
+{
+    match closed {
+        Closed::OutOfMemory => end_by_refusal(err, &Refusal::OutOfMemory),
+        _ => {
+            let ending = end_by_refusal(err, &Refusal::Device);
+            let _ = print_closed(err, closed);
+            ending
+        }
+    }
 }
 
 /// Prints what is wrong in a node's folder, by the refusal of its disk.
@@ -80,9 +96,16 @@ fn read_area<R: Files + AllocGlobal>(
     room: &mut [u8; TOLD_BYTES],
 ) -> io::Result<usize> {
     let path = format!(in rt.alloc(); "{folder}/a{area}")?;
+    see_plain(rt, path.as_str())?;
     let mut file = fs::open(rt, path.as_str())?;
     file.seek(SeekFrom::Start(offset))?;
     file.read(room)
+}
+
+// Opens a file to read, if it is plain.
+fn open_plain<R: Files>(rt: &R, path: &str) -> io::Result<R::File> {
+    see_plain(rt, path)?;
+    fs::open(rt, path)
 }
 
 // Prints why the first file of a folder can't be opened that can't be.
@@ -93,7 +116,7 @@ fn print_closed_file<R: Files + AllocGlobal, W: Write>(
 ) -> io::Result<()> {
     for area in 0..2u8 {
         let path = format!(in rt.alloc(); "{folder}/a{area}")?;
-        if let Err(reason) = fs::open(rt, path.as_str()) {
+        if let Err(reason) = open_plain(rt, path.as_str()) {
             return writeln!(err, "{path}: {reason}");
         }
     }

@@ -1,13 +1,16 @@
 //! Reading the folders of a cluster. Nothing is written, and nothing is made.
 
-ghost use Rattle.std.specs.Prelude.{◌≡◌, ◌≤◌, length, IfOk};
+ghost use Rattle.std.specs.Prelude.{◌≡◌, ◌≤◌, length, false, IfOk};
 ghost use Rattle.std.specs.List.{AllByRecursion};
+ghost use Rattle.rr_folders.specs.Judged.{MayStart};
 ghost use Rattle.rr_cli.specs.Clusters.{IsRead, AreRead};
 
 use crate::folder_faults::print_folder_fault;
-use rr_disk::FileDisk;
-use rr_folders::{Reading, read_disk};
-use rr_types::{MAX_NODES, Refusal};
+use rr_folders::{
+    Closed, Judged, Lockable, Reading, Shares, judge_cluster, read_disk, read_only_disk,
+    share_cluster,
+};
+use rr_types::{MAX_NODES, Nodes, Refusal};
 use std::alloc::AllocError;
 use std::io;
 use std::io::Write;
@@ -21,7 +24,7 @@ where
     ensures { IfOk result IsRead }
 {
     let folder = format!(in rt.alloc(); "{dir}/{place}")?;
-    match FileDisk::open_read_only(rt, folder.as_str()) {
+    match read_only_disk(rt, folder.as_str()) {
         Ok(disk) => {
             let mut disk = disk;
             read_disk(rt.alloc(), &mut disk)
@@ -31,12 +34,16 @@ where
     }
 }
 
-// What is read of the folders of all places that a cluster may have.
-fn read_places<R: Files + AllocGlobal>(rt: &R, dir: &str) -> Result<Vec<Reading>, AllocError>
+// What is read of the folders of all places that a cluster may have, while these locks are held.
+fn read_places<R: Files + AllocGlobal>(
+    rt: &R,
+    _shares: &Shares<R::File>,
+    dir: &str,
+) -> Result<Vec<Reading>, AllocError>
 where
     R::File: FileExt,
     ensures each { IfOk result (λ v. AllByRecursion IsRead v.items) }
-    ensures number { IfOk result (λ v. 1 ≤ length v.items) }
+    ensures number { IfOk result (λ v. length v.items ≡ 7) }
 {
     let mut readings = Vec::new(rt.alloc());
     for place in 0..MAX_NODES {
@@ -46,33 +53,69 @@ where
 }
 
 // How many folders there are, as the first says that holds facts. Where none does, it is one.
-fn folder_count(readings: &[Reading]) -> u8
-    ensures { 1 ≤ result }
-{
+fn folder_count(readings: &[Reading]) -> Nodes {
     for reading in readings {
         if let Reading::Facts(folder) = reading {
-            return folder.nodes.count();
+            return folder.nodes;
         }
     }
-    1
+    match Nodes::new(1) {
+        Ok(one) => one,
+        Err(_) => unreachable!(),
+    }
 }
 
-/// What is read of the folders DIR/0, DIR/1 and so on of a cluster. There are as many as the first of them says that holds
-/// facts; if none does, only DIR/0 counts.
+// What is read of the folders of a cluster, and how many there are, while these locks are held.
+fn read_shared<R: Files + AllocGlobal>(
+    rt: &R,
+    shares: &Shares<R::File>,
+    dir: &str,
+) -> Result<(Vec<Reading>, Nodes), AllocError>
+where
+    R::File: FileExt,
+    ensures read { IfOk result (λ r. AreRead r.0.items) }
+    ensures number { IfOk result (λ r. length r.0.items ≡ r.1) }
+{
+    let mut readings = read_places(rt, shares, dir)?;
+    let nodes = folder_count(readings.as_slice());
+    readings.truncate(usize::from(nodes.count()));
+    Ok((readings, nodes))
+}
+
+/// What is read of the folders DIR/0, DIR/1 and so on of a cluster, and whether a start over them would be refused. There are as many as
+/// the first of them says that holds facts; if none does, only DIR/0 counts. No program runs the cluster meanwhile.
 ///
 /// # Errors
-/// Memory alone.
+/// `InUse`, where one does. `OutOfMemory`.
+pub(crate) fn read_judged<R: Files + AllocGlobal>(
+    rt: &R,
+    dir: &str,
+) -> Result<(Vec<Reading>, Judged), Closed>
+where
+    R::File: FileExt + Lockable,
+    ensures read { IfOk result (λ r. AreRead r.0.items) }
+    ensures judged { IfOk result (λ r. r.1 ≡ false → MayStart (length r.0.items)) }
+{
+    let shares = share_cluster(rt, dir, MAX_NODES)?;
+    let (readings, nodes) = read_shared(rt, &shares, dir)?;
+    let judged = judge_cluster(rt, &shares, nodes, dir)?;
+    Ok((readings, judged))
+}
+
+/// What is read of the folders of a cluster, as `read_judged` reads them.
+///
+/// # Errors
+/// `InUse`, where a program runs the cluster. `OutOfMemory`.
 pub(crate) fn read_folders<R: Files + AllocGlobal>(
     rt: &R,
     dir: &str,
-) -> Result<Vec<Reading>, AllocError>
+) -> Result<Vec<Reading>, Closed>
 where
-    R::File: FileExt,
+    R::File: FileExt + Lockable,
     ensures { IfOk result (λ v. AreRead v.items) }
 {
-    let mut readings = read_places(rt, dir)?;
-    let count = usize::from(folder_count(readings.as_slice()));
-    readings.truncate(count);
+    let shares = share_cluster(rt, dir, MAX_NODES)?;
+    let (readings, _) = read_shared(rt, &shares, dir)?;
     Ok(readings)
 }
 

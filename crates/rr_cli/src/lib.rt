@@ -60,7 +60,7 @@ mod viewing;
 mod views;
 mod words;
 
-pub use folder_faults::print_folder_fault;
+pub use folder_faults::{end_by_unlocked, print_folder_fault};
 pub use migrate::migrate_disk;
 pub use page::page_of;
 pub use program::{execute, run};

@@ -1,6 +1,6 @@
 //! The migration of a node's folder: an opening of its disk, and what its areas hold then.
 
-ghost use Rattle.std.specs.Prelude.{◌≡◌, ◌⊎◌, ◌<◌, ◌^◌, ℕ, length, None, Ok, Err, IfOk, IfErr, IfSome, option_map};
+ghost use Rattle.std.specs.Prelude.{◌≡◌, ◌⊎◌, ◌<◌, ◌^◌, ℕ, length, Contains, None, Ok, Err, IfOk, IfErr, IfSome, option_map};
 ghost use Rattle.std.specs.Io.KnownBytes.{Keeps};
 ghost use Rattle.rr_types.specs.declared.refusal.Refusal.TheVariants.{Device, OutOfMemory};
 ghost use Rattle.rr_disk.specs.Areas.{bytes_of};
@@ -11,16 +11,18 @@ ghost use Rattle.rr_cli.specs.Areas.{IsShown};
 ghost use Rattle.rr_cli.specs.Ends.{EndsOnMigration, EndsOnSeat, AreSeat};
 ghost use Rattle.rr_cli.specs.Migrations.{opened_areas, TellsSome, IsUnmigrated};
 
-use crate::folder_faults::end_by_folder_fault;
+use crate::folder_faults::{end_by_folder_fault, end_by_unlocked};
 use crate::random_schedule::{nodes_of, number_of};
 use crate::show::show_disk;
 use crate::streams::end_by_text;
-use rr_disk::{Area, Disk, FileDisk};
+use rr_disk::{Area, Disk};
+use rr_folders::{Lockable, Locks, MarkWriter, lock_node};
 use rr_journal::Journal;
 use rr_stream::Sink;
 use rr_types::{NodeId, Nodes, Refusal};
 use std::alloc::Global;
-use std::io::Write;
+use std::fs::OpenFile;
+use std::io::{Read, Seek, Write};
 use std::os::unix::fs::FileExt;
 use std::rt::Files;
 
@@ -82,40 +84,72 @@ pub fn migrate_disk<D: Disk + Drop>(
     }
 }
 
-// Migrates the disk in a folder. Its files are opened to read and write, and nothing is made that is missing.
-fn folder_text<R: Files + AllocGlobal>(rt: &R, folder: &str, seat: Seat) -> Result<Vec<u8>, Refusal>
-where
-    R::File: FileExt,
+// Migrates a disk: the text on what its areas hold then.
+fn disk_text<D: Disk + Drop>(alloc: Global, seat: Seat, disk: D) -> Result<Vec<u8>, Refusal>
     requires exists { seat.node < seat.nodes }
     ensures some { IfOk result TellsSome }
     ensures cause { IfErr result IsUnmigrated }
 {
-    match FileDisk::open(rt, folder, false) {
-        Ok(disk) => match migrate_disk(rt.alloc(), seat.nodes, seat.node, disk) {
-            Ok((text, _)) => Ok(text),
+    match migrate_disk(alloc, seat.nodes, seat.node, disk) {
+        Ok((text, _)) => Ok(text),
+        Err(refusal) => Err(refusal),
+    }
+}
+
+// Migrates the disk in a folder that is locked, and its mark if there is one. Its files are opened to read and write, and nothing is
+// made that is missing.
+#[tactic(auto, using(crate::proofs::MigrateLemmas::unmade))]
+fn folder_text<
+    F: Read + Write + Seek + FileExt + OpenFile + Drop,
+    R: Files<File = F> + AllocGlobal + MarkWriter,
+>(rt: &R, locks: &Locks<F>, folder: &str, seat: Seat) -> Result<Vec<u8>, Refusal>
+    requires locked { Contains locks.now folder.now }
+    requires exists { seat.node < seat.nodes }
+    ensures some { IfOk result TellsSome }
+    ensures cause { IfErr result IsUnmigrated }
+{
+    match locks.marked_disk_in(rt, folder) {
+        Ok(Some(disk)) => disk_text(rt.alloc(), seat, disk),
+        Ok(None) => match locks.disk_in(rt, folder) {
+            Ok(disk) => disk_text(rt.alloc(), seat, disk),
             Err(refusal) => Err(refusal),
         },
         Err(refusal) => Err(refusal),
     }
 }
 
-// Migrates the disk in a folder, and prints what its areas hold then.
-fn migrate_folder<R: Files + AllocGlobal, O: Sink, E: Write>(
-    rt: &R,
-    folder: &str,
-    seat: Seat,
-    out: &mut O,
-    err: &mut E,
-) -> u8
-where
-    R::File: FileExt,
+// Migrates the disk in a folder that is locked, and prints what its areas hold then.
+fn migrate_folder<
+    F: Read + Write + Seek + FileExt + OpenFile + Drop,
+    R: Files<File = F> + AllocGlobal + MarkWriter,
+    O: Sink,
+    E: Write,
+>(rt: &R, locks: &Locks<F>, folder: &str, seat: Seat, out: &mut O, err: &mut E) -> u8
+    requires locked { Contains locks.now folder.now }
     requires exists { seat.node < seat.nodes }
     ensures ends { EndsOnMigration result (O.printing out.old) (O.printing out.new) }
     ensures quiet { result ≡ 0 → Keeps (E.contents err.old) (E.contents err.new) }
 {
-    match folder_text(rt, folder, seat) {
+    match folder_text(rt, locks, folder, seat) {
         Ok(text) => end_by_text(out, err, text.as_slice()),
         Err(refusal) => end_by_folder_fault(rt, err, folder, &refusal),
+    }
+}
+
+// Locks a folder as those do who run its node, and migrates the disk in it.
+fn migrate_alone<
+    F: Read + Write + Seek + FileExt + OpenFile + Drop + Lockable,
+    R: Files<File = F> + AllocGlobal + MarkWriter,
+    O: Sink,
+    E: Write,
+>(rt: &R, folder: &str, seat: Seat, out: &mut O, err: &mut E) -> u8
+    requires exists { seat.node < seat.nodes }
+    ensures ends { EndsOnMigration result (O.printing out.old) (O.printing out.new) }
+    ensures quiet { result ≡ 0 → Keeps (E.contents err.old) (E.contents err.new) }
+{
+    match lock_node(rt, folder) {
+        Ok(locks) => migrate_folder(rt, &locks, folder, seat, out, err),
+        Err(closed) => end_by_unlocked(err, &closed),
     }
 }
 
@@ -134,7 +168,7 @@ fn seat_of(node: Option<&str>, nodes: Option<&str>) -> Option<Seat>
 
 /// Migrates the disk in the folder that the word `folder` names, that of node `node` of `nodes` nodes. Words that name
 /// no folder, or no such node, end with 2.
-pub(crate) fn migrate_by_words<R: Files + AllocGlobal, O: Sink, E: Write>(
+pub(crate) fn migrate_by_words<R: Files + AllocGlobal + MarkWriter, O: Sink, E: Write>(
     rt: &R,
     folder: Option<&str>,
     node: Option<&str>,
@@ -143,7 +177,7 @@ pub(crate) fn migrate_by_words<R: Files + AllocGlobal, O: Sink, E: Write>(
     err: &mut E,
 ) -> u8
 where
-    R::File: FileExt,
+    R::File: FileExt + Lockable,
     ensures ends { EndsOnSeat (option_map (λ s. s.now) folder.entry) (option_map (λ s. s.now) node.entry) (option_map (λ s. s.now) nodes.entry) result (O.printing out.old) (O.printing out.new) }
     ensures quiet { result ≡ 0 → Keeps (E.contents err.old) (E.contents err.new) }
 {
@@ -151,7 +185,7 @@ where
         return end_without_seat(err);
     };
     match seat_of(node, nodes) {
-        Some(seat) => migrate_folder(rt, folder, seat, out, err),
+        Some(seat) => migrate_alone(rt, folder, seat, out, err),
         None => end_without_seat(err),
     }
 }

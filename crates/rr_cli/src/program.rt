@@ -24,6 +24,7 @@ use crate::streams::{
 use crate::sweep::{end_without_seed, sweep_by_word, sweep_file};
 use crate::verification::verify_by_word;
 use crate::words::end_by_words;
+use rr_folders::{Lockable, MarkWriter};
 use rr_sim::report_on;
 use rr_stream::{FileReader, Sink, Source, read_all};
 use rr_words::{Task, read_words};
@@ -104,16 +105,16 @@ fn simulate_file<F: FileReader, O: Sink, E: Write>(
 /// What goes wrong is told on `err`, but for a reader of `out` that has gone. The statuses: 0 done, 2 wrong words, 3 no
 /// schedule or tape, 4 a damaged area or folders that don't agree, 5 a device, a file or a stream, 6 memory, 7 a tape with an event that isn't what
 /// its node does next, 8 a schedule that isn't finished.
-pub fn execute<R: Files + AllocGlobal, S: AsStr, F: FileReader, I: Source, O: Sink, E: Write>(
-    rt: &R,
-    words: &[S],
-    files: &mut F,
-    input: &mut I,
-    out: &mut O,
-    err: &mut E,
-) -> u8
+pub fn execute<
+    R: Files + AllocGlobal + MarkWriter,
+    S: AsStr,
+    F: FileReader,
+    I: Source,
+    O: Sink,
+    E: Write,
+>(rt: &R, words: &[S], files: &mut F, input: &mut I, out: &mut O, err: &mut E) -> u8
 where
-    R::File: FileExt,
+    R::File: FileExt + Lockable,
     ensures ends { EndsBy (faults_of (map S.text words.now)) (task_of (map S.text words.now))
         (record { input = I.reading input.old; files = F.held files.old }) (record { input = I.reading input.new; files = F.held files.new }) result (O.printing out.old) (O.printing out.new) }
     ensures quiet { result ≡ 0 → Keeps (E.contents err.old) (E.contents err.new) }
@@ -150,7 +151,7 @@ where
 
 /// Runs the program as `execute` does, where its words could be had. Otherwise it ends with 6 if memory ran out, else
 /// with 2, as for a word that is no text.
-pub fn run<R: Files + AllocGlobal, F: FileReader, I: Source, O: Sink, E: Write>(
+pub fn run<R: Files + AllocGlobal + MarkWriter, F: FileReader, I: Source, O: Sink, E: Write>(
     rt: &R,
     words: io::Result<Vec<String>>,
     files: &mut F,
@@ -159,7 +160,7 @@ pub fn run<R: Files + AllocGlobal, F: FileReader, I: Source, O: Sink, E: Write>(
     err: &mut E,
 ) -> u8
 where
-    R::File: FileExt,
+    R::File: FileExt + Lockable,
     ensures ends { IfOk words (λ words. EndsBy (faults_of (map string_bytes words.items)) (task_of (map string_bytes words.items))
         (record { input = I.reading input.old; files = F.held files.old }) (record { input = I.reading input.new; files = F.held files.new }) result (O.printing out.old) (O.printing out.new)) }
     ensures memory { IfErr words (λ error. error_kind error ≡ ErrorKind.OutOfMemory → result ≡ 6) }

@@ -11,9 +11,10 @@ ghost use Rattle.rr_cli.specs.Areas.{area_words, areas_text, areas_in, IsShown, 
 ghost use Rattle.rr_cli.specs.Ends.{EndsOnFolder};
 
 use crate::area_objects::areas_objects;
-use crate::folder_faults::end_by_folder_fault;
+use crate::folder_faults::{end_by_folder_fault, end_by_unlocked};
 use crate::streams::end_by_text;
-use rr_disk::{Disk, FileDisk};
+use rr_disk::Disk;
+use rr_folders::{Lockable, Shares, read_only_disk, share_node};
 use rr_frame::Version;
 use rr_journal::{AreaReport, inspect};
 use rr_stream::Sink;
@@ -123,13 +124,18 @@ pub fn show_disk_in<D: Disk>(alloc: Global, form: Form, disk: &mut D) -> Result<
     }
 }
 
-// The text on the areas of the disk in a folder. Its files are opened for reading alone, and nothing is made.
-fn folder_text<R: Files + AllocGlobal>(rt: &R, form: Form, folder: &str) -> Result<Vec<u8>, Refusal>
+// The text on the areas of the disk in a folder, while these locks are held. Its files are opened for reading alone, and nothing is made.
+fn folder_text<R: Files + AllocGlobal>(
+    rt: &R,
+    _shares: &Shares<R::File>,
+    form: Form,
+    folder: &str,
+) -> Result<Vec<u8>, Refusal>
 where
     R::File: FileExt,
     ensures { ((first : List ℕ) × (second : List ℕ) × IsShownIn form result (inspected first second)) ⊎ (result ≡ Err Device) }
 {
-    match FileDisk::open_read_only(rt, folder) {
+    match read_only_disk(rt, folder) {
         Ok(disk) => {
             let mut disk = disk;
             show_disk_in(rt.alloc(), form, &mut disk)
@@ -138,9 +144,10 @@ where
     }
 }
 
-// Prints what the areas hold of the disk in a folder, in a form.
-pub(crate) fn show_folder<R: Files + AllocGlobal, O: Sink, E: Write>(
+// Prints what the areas hold of the disk in a folder, in a form, while these locks are held.
+fn show_shared<R: Files + AllocGlobal, O: Sink, E: Write>(
     rt: &R,
+    shares: &Shares<R::File>,
     form: Form,
     folder: &str,
     out: &mut O,
@@ -151,9 +158,28 @@ where
     ensures ends { EndsOnFolder form result (O.printing out.old) (O.printing out.new) }
     ensures quiet { result ≡ 0 → Keeps (E.contents err.old) (E.contents err.new) }
 {
-    match folder_text(rt, form, folder) {
+    match folder_text(rt, shares, form, folder) {
         Ok(text) => end_by_text(out, err, text.as_slice()),
         Err(refusal) => end_by_folder_fault(rt, err, folder, &refusal),
+    }
+}
+
+// Prints what the areas hold of the disk in a folder, in a form. No program runs its node meanwhile.
+pub(crate) fn show_folder<R: Files + AllocGlobal, O: Sink, E: Write>(
+    rt: &R,
+    form: Form,
+    folder: &str,
+    out: &mut O,
+    err: &mut E,
+) -> u8
+where
+    R::File: FileExt + Lockable,
+    ensures ends { EndsOnFolder form result (O.printing out.old) (O.printing out.new) }
+    ensures quiet { result ≡ 0 → Keeps (E.contents err.old) (E.contents err.new) }
+{
+    match share_node(rt, folder) {
+        Ok(shares) => show_shared(rt, &shares, form, folder, out, err),
+        Err(closed) => end_by_unlocked(err, &closed),
     }
 }
 

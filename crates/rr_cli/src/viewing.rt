@@ -8,6 +8,7 @@ ghost use Rattle.rr_cli.specs.Views.{EndsWithViews};
 use crate::program::execute;
 use crate::views::show_view;
 use crate::words::end_by_words;
+use rr_folders::{Lockable, MarkWriter};
 use rr_stream::{FileReader, Sink, Source};
 use rr_words::{Task, read_words};
 use std::convert::AsStr;
@@ -25,7 +26,7 @@ use std::rt::Files;
 /// `rr stats [--json] [FILE]` prints statistics of the run. `rr check FILE REPORT` compares the report with the file
 /// REPORT, and prints where they differ first; then the status is 1.
 pub fn execute_with_views<
-    R: Files + AllocGlobal,
+    R: Files + AllocGlobal + MarkWriter,
     S: AsStr,
     F: FileReader,
     I: Source,
@@ -33,7 +34,7 @@ pub fn execute_with_views<
     E: Write,
 >(rt: &R, words: &[S], files: &mut F, input: &mut I, out: &mut O, err: &mut E) -> u8
 where
-    R::File: FileExt,
+    R::File: FileExt + Lockable,
     ensures ends { EndsWithViews (faults_of (map S.text words.now)) (task_of (map S.text words.now))
         (record { input = I.reading input.old; files = F.held files.old }) (record { input = I.reading input.new; files = F.held files.new }) result (O.printing out.old) (O.printing out.new) }
     ensures quiet { result ≡ 0 → Keeps (E.contents err.old) (E.contents err.new) }

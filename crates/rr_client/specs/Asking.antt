@@ -16,13 +16,14 @@ use Rattle.rr_client.specs.declared.error.ClusterError.{ClusterError}
 use Rattle.rr_client.specs.declared.error.ClusterError.TheVariants.{Numbers, Unacknowledged, NothingToAsk, ListFull, NumberUsed, Over, Unseen, OutOfMemory, Late}
 
 -- a client: its node, its number, the longest list that it has seen or learned, the least number that its next request may have,
--- the command that isn't acknowledged yet, and the list up to where it has been told of changes
+-- the command that isn't acknowledged yet, the one that it has had submitted last, and the list up to where it has been told of changes
 pub record Asker : Type 0 where
   pub node : ℕ
   pub client : ℕ
   pub known : List Command
   pub next : ℕ
   pub unanswered : Option Command
+  pub asked : Option Command
   pub told : List Command
 
 -- from one state of a client to a later one: it is the same client at the same node, it knows no less, gives no number twice, and
@@ -58,10 +59,11 @@ kept_behind c (Err (Unacknowledged d)) = Some c
 kept_behind c (Err Over) = Some c
 kept_behind c _ = None
 
--- what a submit of a command comes to: a reply is that of the list that the client then knows
+-- what a submit of a command comes to: a reply is that of the list that the client then knows, where just this command was submitted
 abbrev pub ComesTo : Command → Asker → Result Reply ClusterError → Type 0
 ComesTo c b result =
-    IfOk result (λ reply. reply_of b.known c.request ≡ Some reply) × IfErr result (IsUnanswered c) × (b.unanswered ≡ kept_behind c result)
+    IfOk result (λ reply. (reply_of b.known c.request ≡ Some reply) × (b.asked ≡ Some c)) × IfErr result (IsUnanswered c)
+    × (b.unanswered ≡ kept_behind c result)
 
 -- a submit of an operation: as a command with the next request number, which is new; or there is no number, and nothing has changed
 abbrev pub IsSubmitted : Op → Asker → Asker → Result Reply ClusterError → Type 0

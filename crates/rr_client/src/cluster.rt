@@ -8,8 +8,8 @@ use crate::guest::{Guest, Place};
 use crate::options::Options;
 use crate::patience::looks_in;
 use crate::promises::promises_of;
-use rr_disk::{FileDisk, OpenedFile};
-use rr_folders::{Folders, Lockable, Locks, open_folders};
+use rr_disk::Disk;
+use rr_folders::{Folders, Lockable, Locks, MarkWriter, open_folders};
 use rr_threads::{Switches, run_switched};
 use rr_turn::Open;
 use rr_types::{Nodes, Refusal};
@@ -28,7 +28,8 @@ const MOST_TICK: u64 = 10_000;
 
 // The guests at their nodes, over disks that are open, until all are done. The folders are locked meanwhile.
 fn run_over<
-    F: Read + Write + Seek + FileExt + OpenFile + Drop + Send,
+    F: Read + Write + Seek + FileExt + OpenFile + Drop,
+    D: Disk + Drop + Send,
     R: Files + AllocGlobal + Threads + Wait + Clock + Sync,
     G: Guest + Drop + Send,
 >(
@@ -36,9 +37,10 @@ fn run_over<
     nodes: Nodes,
     locks: &Locks<F>,
     options: &Options,
-    disks: Vec<FileDisk<OpenedFile<F>>>,
+    disks: Vec<D>,
     places: Vec<Place<G>>,
 ) -> Result<Vec<G>, ClusterError>
+    requires alike { (one other : D) → D.tells one → D.tells other }
     ensures { IfOk result (λ guests. length guests.items ≡ length places.items) }
 {
     let alloc = rt.alloc();
@@ -77,7 +79,7 @@ fn run_over<
 /// `OutOfMemory`; `Run`, where the nodes' run has failed.
 pub fn run_cluster<
     F: Read + Write + Seek + FileExt + OpenFile + Drop + Send + Lockable,
-    R: Files<File = F> + AllocGlobal + Threads + Wait + Clock + Sync,
+    R: Files<File = F> + AllocGlobal + Threads + Wait + Clock + Sync + MarkWriter,
     G: Guest + Drop + Send,
 >(
     rt: &R,
@@ -92,7 +94,11 @@ pub fn run_cluster<
     if tick < LEAST_TICK || tick > MOST_TICK {
         return Err(ClusterError::BadTick { tick });
     }
-    let Folders { locks, disks } = match open_folders(rt, nodes, dir) {
+    let Folders {
+        locks,
+        disks,
+        reasons: _reasons,
+    } = match open_folders(rt, nodes, dir) {
         Ok(folders) => folders,
         Err(closed) => return Err(error_of(rt.alloc(), closed)),
     };

@@ -1,12 +1,15 @@
 //! Guests get their seats, and come back.
 
-ghost use Rattle.std.specs.Prelude.{◌≡◌, length, IfOk, IfSome};
+ghost use Rattle.std.specs.Prelude.{◌≡◌, ◌≤◌, [], length, All, IfOk, IfSome};
+ghost use Rattle.rr_client.specs.FreshNumbers.{least_free};
+ghost use Rattle.rr_client.specs.Seating.{HasOwnNumbers};
 
 use crate::error::ClusterError;
 use crate::guest::Place;
 use crate::numbers::block_from;
 use crate::promises::least_free;
 use crate::seated::{Coming, Seated, Slot};
+use rr_folders::Block;
 use rr_types::{Nodes, Promise, Refusal};
 use std::alloc::Global;
 use std::rt::Files;
@@ -25,13 +28,30 @@ pub(crate) fn open_slots<G: Drop>(alloc: Global, count: usize) -> Result<Vec<Slo
 
 // A row of guests for each node.
 fn open_rows<C: Drop>(alloc: Global, nodes: Nodes) -> Result<Vec<Vec<C>>, ClusterError>
-    ensures { IfOk result (λ rows. length rows.items ≡ nodes) }
+    ensures count { IfOk result (λ rows. length rows.items ≡ nodes) }
+    ensures empty { IfOk result (λ rows. All (λ row. row.items ≡ []) rows.items) }
 {
     let mut rows = Vec::new(alloc);
     'rows: for _ in 0..nodes.count() {
         rows.push(Vec::new(alloc))?;
     }
     Ok(rows)
+}
+
+// Request numbers above all that the promises name as this client's.
+fn own_numbers<R: Files + AllocGlobal>(
+    rt: &R,
+    dir: &str,
+    promises: &[Promise],
+    client: u32,
+) -> Result<Block, ClusterError>
+    ensures { IfOk result (λ numbers. least_free client promises.now ≤ numbers.next) }
+{
+    let Some(least) = least_free(client, promises) else {
+        let refusal = Refusal::TooLarge;
+        return Err(ClusterError::Numbers { refusal });
+    };
+    block_from(rt, dir, least)
 }
 
 /// The guests at their nodes, each with a slot and with request numbers above all that the promises name as its client's.
@@ -47,7 +67,8 @@ pub(crate) fn seat_all<'x, G: Drop, R: Files + AllocGlobal>(
     slots: &'x [Slot<G>],
     places: Vec<Place<G>>,
 ) -> Result<Vec<Vec<Seated<'x, G>>>, ClusterError>
-    ensures { IfOk result (λ rows. length rows.items ≡ nodes) }
+    ensures rows { IfOk result (λ rows. length rows.items ≡ nodes) }
+    ensures own { IfOk result (λ rows. All (λ row. All (λ s. HasOwnNumbers promises.now s.coming) row.items) rows.items) }
 {
     let mut rows = open_rows(rt.alloc(), nodes)?;
     'places: for (place, slot) in places.into_iter().zip(slots) {
@@ -56,11 +77,7 @@ pub(crate) fn seat_all<'x, G: Drop, R: Files + AllocGlobal>(
             client,
             guest,
         } = place;
-        let Some(least) = least_free(client, promises) else {
-            let refusal = Refusal::TooLarge;
-            return Err(ClusterError::Numbers { refusal });
-        };
-        let numbers = block_from(rt, dir, least)?;
+        let numbers = own_numbers(rt, dir, promises, client)?;
         let Some(row) = rows.get_mut(usize::from(node)) else {
             let last = nodes.count() - 1;
             return Err(ClusterError::NoNode { node, last });

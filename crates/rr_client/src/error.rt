@@ -90,6 +90,17 @@ fn fault_text(fault: &Fault) -> &'static str {
         Fault::OtherNodes(_) => "its cluster has another number of nodes",
         Fault::OtherCluster => "it is another cluster's; put that of this one back",
         Fault::Unmarked => "no cluster has marked it; put the folder of this one back",
+        Fault::Older => {
+            "its newest area isn't the one that the node wrote last, so the node can't know any more what it promised"
+        }
+        Fault::Shorter => {
+            "its newest area is shorter than it was, so the node can't know any more what it promised"
+        }
+        Fault::Altered => {
+            "its newest area was altered, so the node can't know any more what it promised"
+        }
+        Fault::Outdated =>
+            "it is an older copy of itself, so the node can't know any more what it promised",
     }
 }
 

@@ -57,7 +57,7 @@ impl<'h, 'd, 'y, W: WindowName, T, R> Model for Caller<'h, 'd, 'y, W, T, R> {
 
     ghost Value = { Asker };
 
-    ghost view = { λ c. record { node = c.handle.now.node; client = c.client; known = c.handle.now.known; next = c.numbers.next; unanswered = c.unanswered; told = c.watch } };
+    ghost view = { λ c. record { node = c.handle.now.node; client = c.client; known = c.handle.now.known; next = c.numbers.next; unanswered = c.unanswered; asked = c.handle.now.wanted; told = c.watch } };
 }
 
 // The command that is kept to be asked again behind what a submit of it has come to.
@@ -92,7 +92,7 @@ impl<'h, 'd, 'y, W: WindowName, T: Turnstile, R: Wait> Caller<'h, 'd, 'y, W, T, 
 
     // Submits a command under its number, and says what it comes to.
     fn ask(&mut self, command: &Command) -> Result<Reply, ClusterError>
-        ensures reply { IfOk result (λ reply. reply_of self.new.known command.now.request ≡ Some reply) }
+        ensures reply { IfOk result (λ reply. (reply_of self.new.known command.now.request ≡ Some reply) × (self.new.asked ≡ Some command.now)) }
         ensures err { IfErr result (IsUnanswered command.now) }
         ensures later { GoesOn self.old self.new }
         ensures kept { (self.new.unanswered ≡ self.old.unanswered) × (self.new.next ≡ self.old.next) }

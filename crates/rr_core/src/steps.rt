@@ -1,6 +1,6 @@
 //! The steps of a node's opening, one device call each.
 
-ghost use Rattle.std.specs.Prelude.{◌≡◌, ◌⊎◌, ◌≤◌, List, Some, Ok, IfOk, IfErr};
+ghost use Rattle.std.specs.Prelude.{◌≡◌, ◌⊎◌, ◌↔◌, ◌≤◌, List, None, Some, IsSome, OnErr, IfOk, IfErr};
 ghost use Rattle.rr_types.specs.declared.fact.Fact.{Fact};
 ghost use Rattle.rr_types.specs.declared.refusal.Refusal.TheVariants.{OutOfMemory, Device};
 ghost use Rattle.rr_types.specs.Counts.{counted};
@@ -9,7 +9,7 @@ ghost use Rattle.rr_journal.specs.Held.{Holds};
 ghost use Rattle.rr_journal.specs.Fronts.{KnowsOther};
 ghost use Rattle.rr_journal.specs.OpeningCourse.{found_from, StaysOnCourse, IsRefused, IsUntouched};
 ghost use Rattle.rr_journal.specs.OpeningSteps.{Steps, MaySnap};
-ghost use Rattle.rr_journal.specs.OpeningStates.{OpeningState};
+ghost use Rattle.rr_journal.specs.declared.opening.End.{End};
 ghost use Rattle.rr_journal.specs.StepsInPlace.{journal_of, as_progress, BeginsAgain};
 ghost use Rattle.rr_model.specs.NodeStep.{started};
 ghost use Rattle.rr_journal.specs.OpeningTable.{OpensWith, ComesToAny, ComesTo, IsKept, disk_after};
@@ -20,7 +20,7 @@ use crate::node_core::Core;
 use crate::opening::Opening;
 use crate::recovery::{measure, start_core};
 use rr_disk::Disk;
-use rr_journal::{End, Journal};
+use rr_journal::{Journal, Stepped};
 use rr_types::Refusal;
 use std::alloc::Global;
 
@@ -82,12 +82,12 @@ impl<D: Disk> Opening<D> {
         }
     }
 
-    /// Makes the next device call in place. At the end it gives what `close` takes. An opening that was refused, or has
-    /// found its end, would begin anew over its disk.
+    /// Makes the next device call in place. The end that the last call finds stays in the opening, for `close`. An opening that
+    /// was refused, or has found its end, would begin anew over its disk, without an end.
     ///
     /// # Errors
     /// As of `step`, but memory for the core is taken by `close`.
-    pub fn step_on(&mut self, alloc: Global) -> Result<Option<End>, Refusal>
+    pub fn step_on(&mut self, alloc: Global) -> Result<Stepped, Refusal>
         ensures exact { Steps D.read_gives D.write_gives D.sync_gives self.old (as_progress self.new result) }
         ensures call { D.calls (disk_after (as_progress self.new result)) ≡ counted (D.calls self.old.disk) }
         ensures faults { D.faults self.old.disk ≤ D.faults (disk_after (as_progress self.new result)) }
@@ -107,20 +107,22 @@ impl<D: Disk> Opening<D> {
         ensures fronts { D.tells self.old.disk → IfOk (as_progress self.new result) (λ progress. KnowsOther D.areas progress) }
         ensures whose { (self.new.nodes ≡ self.old.nodes) × (self.new.node ≡ self.old.node) }
         ensures again { BeginsAgain D.areas self.new result }
+        ensures ended { IfOk result (λ stepped. IsSome self.new.end ↔ (stepped ≡ Stepped.Ended)) }
+        ensures endless { OnErr result (self.new.end ≡ None) }
     {
         let stepped = self.journal.step_on(alloc);
         measure(self.journal.disk());
         stepped
     }
 
-    /// The core that starts from the end that the last step found, and the areas of its disk. A refused start hands the
+    /// The core that starts from the end that the opening has found, and the areas of its disk. A refused start hands the
     /// disk back.
     ///
     /// # Errors
     /// `OutOfMemory`.
-    pub fn close(self, alloc: Global, end: End) -> Result<(Core, Journal<D>), (Refusal, D)>
-        requires { (old : OpeningState D) × Steps D.read_gives D.write_gives D.sync_gives old (as_progress self (Ok (Some end))) }
-        ensures ok { IfOk result (λ r. (r.0 ≡ started self.nodes self.node end.promise end.next) × (r.0.marked ≡ end.promise) × (r.1 ≡ journal_of self end)) }
+    pub fn close(self, alloc: Global) -> Result<(Core, Journal<D>), (Refusal, D)>
+        requires { IsSome self.end }
+        ensures ok { (end : End) → self.end ≡ Some end → IfOk result (λ r. (r.0 ≡ started self.nodes self.node end.promise end.next) × (r.0.marked ≡ end.promise) × (r.1 ≡ journal_of self end)) }
         ensures err { IfErr result (λ r. (r.0 ≡ OutOfMemory) × (r.1 ≡ self.disk)) }
     {
         let Opening {
@@ -128,7 +130,7 @@ impl<D: Disk> Opening<D> {
             nodes: _,
             node: _,
         } = self;
-        let (journal, opened) = journal.close(end);
+        let (journal, opened) = journal.close();
         match start_core(alloc, journal, opened) {
             Ok((core, slots)) => Ok((core, slots)),
             Err(wanting) => Err(wanting),

@@ -10,6 +10,7 @@ use Rattle.std.proofs.lemmas.List.Concat.{flat_map-append}
 use Rattle.std.proofs.lemmas.Fmt.{hex_byte}
 use Rattle.std.proofs.lemmas.Bool.{and_parts, lt-ltb, le-ltb}
 use Rattle.rr_explain.specs.Faults.{is_printable, shown_byte, shown}
+use Rattle.rr_explain.specs.Names.{is_clean, given_byte}
 
 -- printable bytes are shown as they are
 pub shown_printable : (bytes : List ℕ) → list_all is_printable bytes ≡ true → flat_map shown_byte bytes ≡ bytes
@@ -22,6 +23,17 @@ shown_more bytes i lt =
     ap (flat_map shown_byte) (take_more bytes i 0 lt)
     ∙ flat_map-append shown_byte (take i bytes) (get_or bytes i 0 ∷ [])
     ∙ ap (λ (t : List ℕ). flat_map shown_byte (take i bytes) ++ t) (append-nil (shown_byte (get_or bytes i 0)))
+
+-- the same of bytes that people gave: clean ones are printed as they are
+pub given_clean : (bytes : List ℕ) → list_all is_clean bytes ≡ true → flat_map given_byte bytes ≡ bytes
+given_clean [] h = refl
+given_clean (b ∷ bytes) h = let p = and_parts (is_clean b) (list_all is_clean bytes) h in rw p.0 (ap (λ (t : List ℕ). b ∷ t) (given_clean bytes p.1))
+
+pub given_more : (bytes : List ℕ) (i : ℕ) → i < length bytes → flat_map given_byte (take (i + 1) bytes) ≡ flat_map given_byte (take i bytes) ++ given_byte (get_or bytes i 0)
+given_more bytes i lt =
+    ap (flat_map given_byte) (take_more bytes i 0 lt)
+    ∙ flat_map-append given_byte (take i bytes) (get_or bytes i 0 ∷ [])
+    ∙ ap (λ (t : List ℕ). flat_map given_byte (take i bytes) ++ t) (append-nil (given_byte (get_or bytes i 0)))
 
 pub hex_shown : (b : ℕ) → b < 256 → is_printable b ≡ false → 92 ∷ 120 ∷ padded_integral (format_spec 32 0 4 2 (2 ^ 64 - 1)) false [] (digits 16 false b) ≡ shown_byte b
 hex_shown b byte other = let shown : shown_byte b ≡ 92 ∷ 120 ∷ digit_glyph false (b / 16) ∷ digit_glyph false (b % 16) ∷ [] = rw other refl in ap (λ (t : List ℕ). 92 ∷ 120 ∷ t) (hex_byte false b byte) ∙ sym shown

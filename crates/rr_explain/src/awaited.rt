@@ -5,8 +5,8 @@ ghost use Rattle.rr_explain.specs.Faults.{ArePlain};
 
 use crate::recorded::Recorded;
 use rr_text::EventKind;
-use rr_text::text_read::{hex_byte, keyword, node, number, op_kind, set, small_number};
-use rr_types::{Name, Nodes, OpKind, Value};
+use rr_text::text_read::{hex_byte, keyword, node, number, set, small_number};
+use rr_types::{Name, Nodes, OpKind, Shape, Value};
 
 /// What may stand next in a line.
 #[derive(Clone, Copy, Debug)]
@@ -16,9 +16,8 @@ pub(crate) enum Awaited {
     Client,
     Request,
     Operation,
-    Claimed,
-    Released,
-    Transferred,
+    // The name of an operation, which has this beside it.
+    Named(Shape),
     Value,
     Owner,
     Message,
@@ -44,7 +43,7 @@ impl Awaited {
             Awaited::Client => "client",
             Awaited::Request => "request number",
             Awaited::Operation => "operation",
-            Awaited::Claimed | Awaited::Released | Awaited::Transferred | Awaited::Looked => "name",
+            Awaited::Named(_) | Awaited::Looked => "name",
             Awaited::Value => "value",
             Awaited::Owner => "owner",
             Awaited::Message => "message number",
@@ -66,11 +65,9 @@ impl Awaited {
                 "submit, hear, suspect, tick, advance, take, dev, fail, mark, send, ack, snap, crash or restart"
             }
             Awaited::Node(_) | Awaited::Looker => digits(nodes),
-            Awaited::Operation => "claim, update, release or transfer",
+            Awaited::Operation => OpKind::choice(),
             Awaited::Request => "a number below 2^64 without leading zeros",
-            Awaited::Claimed | Awaited::Released | Awaited::Transferred | Awaited::Looked => {
-                "1 to 64 of a to z, 0 to 9 and hyphen"
-            }
+            Awaited::Named(_) | Awaited::Looked => "1 to 64 of a to z, 0 to 9 and hyphen",
             Awaited::Value => "1 to 64 printable ASCII characters",
             Awaited::Client
             | Awaited::Owner
@@ -92,9 +89,7 @@ impl Awaited {
             Awaited::Node(_) | Awaited::Looker => node(nodes, word).is_some(),
             Awaited::Operation => behind_operation(word).is_some(),
             Awaited::Request => number(word).is_some(),
-            Awaited::Claimed | Awaited::Released | Awaited::Transferred | Awaited::Looked => {
-                Name::new(word).is_ok()
-            }
+            Awaited::Named(_) | Awaited::Looked => Name::new(word).is_ok(),
             Awaited::Value => !word.is_empty() && Value::new(word).is_ok(),
             Awaited::Client
             | Awaited::Owner
@@ -128,8 +123,8 @@ impl Awaited {
                 Some(awaited) => awaited,
                 None => Awaited::End,
             },
-            Awaited::Claimed => Awaited::Value,
-            Awaited::Transferred => Awaited::Owner,
+            Awaited::Named(Shape::Valued) => Awaited::Value,
+            Awaited::Named(Shape::Owned) => Awaited::Owner,
             Awaited::FirstCut => Awaited::SecondCut,
             Awaited::SecondCut => Awaited::Fill,
             Awaited::Recorded(recorded) => recorded.behind(word),
@@ -186,11 +181,8 @@ pub(crate) fn digits(nodes: Nodes) -> &'static str
 
 // What may stand behind an operation of this name.
 fn behind_operation(word: &[u8]) -> Option<Awaited> {
-    Some(match op_kind(word)? {
-        OpKind::Claim | OpKind::Update => Awaited::Claimed,
-        OpKind::Release => Awaited::Released,
-        OpKind::Transfer => Awaited::Transferred,
-    })
+    let kind = OpKind::of_word(word)?;
+    Some(Awaited::Named(kind.shape()))
 }
 
 fn is_fill(word: &[u8]) -> bool {

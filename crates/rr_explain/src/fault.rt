@@ -106,7 +106,7 @@ fn print_shown<W: Write>(err: &mut W, word: &[u8]) -> io::Result<()>
     }
 }
 
-fn is_printable(byte: u8) -> bool
+pub(crate) fn is_printable(byte: u8) -> bool
     ensures { result ≡ is_printable byte }
 {
     matches!(byte, b' '..=b'~')
@@ -132,7 +132,7 @@ fn print_bytes<W: Write>(err: &mut W, bytes: &[u8]) -> io::Result<()>
 }
 
 // Prints a byte. One that isn't printable ASCII is shown by its number.
-fn print_byte<W: Write>(err: &mut W, byte: u8) -> io::Result<()>
+pub(crate) fn print_byte<W: Write>(err: &mut W, byte: u8) -> io::Result<()>
     ensures { OnOk result (Appends (W.contents err.old) (W.contents err.new) (shown_byte byte)) }
 {
     if is_printable(byte) {

@@ -1,5 +1,6 @@
 //! Faults of texts, told to people. After parsing was refused, `print_schedule_fault`, `print_tape_fault` or
-//! `print_script_fault` prints one line. It says where the text is at fault, what is there, and what may be there.
+//! `print_script_fault` prints one line. It says where the text is at fault, what is there, and what may be there. `Shown` is a writer to
+//! people, to whose terminal no control byte of a name comes.
 //!
 //! # Example
 //!
@@ -25,6 +26,8 @@
 mod awaited;
 mod fault;
 mod faults;
+mod names;
 mod recorded;
 
 pub use faults::{print_schedule_fault, print_script_fault, print_tape_fault};
+pub use names::{Shown, print_given};

@@ -6,7 +6,7 @@ ghost use Rattle.rr_explain.specs.Faults.{ArePlain};
 use crate::awaited::{Awaited, digits};
 use rr_text::EventKind;
 use rr_text::text_read::{cut, keyword, message_kind, node, number, small_number};
-use rr_types::{Instance, MessageKind, Nodes, Round};
+use rr_types::{Instance, MessageKind, Nodes, Reply, ReplyKind, Round};
 
 /// What may stand next in a line of a tape, where a schedule's lines have no such place.
 #[derive(Clone, Copy, Debug)]
@@ -77,9 +77,7 @@ impl Recorded {
             Recorded::Request | Recorded::Acknowledged => {
                 "a client's number below 2^32, a point and its request number below 2^64"
             }
-            Recorded::Reply => {
-                "claimed, updated, released, transferred, taken, unknown, notowner or full"
-            }
+            Recorded::Reply => ReplyKind::choice(),
         }
     }
 
@@ -181,17 +179,11 @@ fn behind_message(word: &[u8]) -> Option<Awaited> {
 
 // What may stand behind the word for a reply.
 fn behind_reply(word: &[u8]) -> Option<Awaited> {
-    if word == b"taken".as_slice() {
-        return Some(Awaited::Owner);
-    }
-    let is_whole = word == b"claimed".as_slice()
-        || word == b"updated".as_slice()
-        || word == b"released".as_slice()
-        || word == b"transferred".as_slice()
-        || word == b"unknown".as_slice()
-        || word == b"notowner".as_slice()
-        || word == b"full".as_slice();
-    if is_whole { Some(Awaited::End) } else { None }
+    let kind = ReplyKind::of_word(word)?;
+    Some(match Reply::of(kind, None) {
+        Some(_) => Awaited::End,
+        None => Awaited::Owner,
+    })
 }
 
 fn is_request(word: &[u8]) -> bool {

@@ -1,7 +1,8 @@
 -- The files of clusters: what is read is printed so, and what is printed is read again.
-use Rattle.std.proofs.Common.{◌≡◌, ℕ, ◌+◌, ◌-◌, ◌≤◌, Bool, true, false, cond, leb, ◌&&◌, List, [], ◌∷◌, ◌++◌, Option, None, Some, codes, decimal, refl, ap, subst, ◌∙◌, sym, arith}
+use Rattle.std.proofs.Common.{◌≡◌, ℕ, ◌<◌, ◌^◌, ◌+◌, ◌-◌, ◌≤◌, Bool, true, false, cond, leb, ◌&&◌, List, [], ◌∷◌, ◌++◌, Option, None, Some, IfSome, codes, decimal, refl, ap, subst, ◌∙◌, sym, arith}
 use Rattle.std.specs.Str.{bytes_eq}
 use Rattle.std.proofs.lemmas.Fmt.{decimal_digit}
+use Rattle.std.proofs.lemmas.List.{append_assoc}
 use Rattle.std.proofs.lemmas.Option.{same_Some, cond_some}
 use Rattle.std.proofs.lemmas.Bool.{and_parts, leb-true, le-leb}
 use Rattle.rr_text.specs.Words.{set_text}
@@ -13,9 +14,12 @@ use Rattle.rr_text.proofs.EventReading.{joined}
 use Rattle.rr_folders.specs.declared.cluster.Identity.{Identity}
 use Rattle.rr_folders.specs.declared.cluster.Cluster.{Cluster}
 use Rattle.rr_folders.specs.declared.cluster.Mark.{Mark}
-use Rattle.rr_folders.specs.Clusters.{IsIdentity, IsCluster, IsMark}
-use Rattle.rr_folders.specs.ClusterTexts.{headed, cluster_line, cluster_text, mark_line, mark_text}
-use Rattle.rr_folders.specs.Reading.{line_from, line_at, identity_at, head_at, count_at, node_at, cluster_at, mark_at}
+use Rattle.rr_folders.specs.declared.cluster.Digest.{Digest}
+use Rattle.rr_folders.specs.declared.cluster.Reached.{Reached}
+use Rattle.rr_folders.specs.declared.cluster.Course.{Course}
+use Rattle.rr_folders.specs.Clusters.{IsIdentity, IsCluster, IsDigest, IsReached, IsCourse, IsMark}
+use Rattle.rr_folders.specs.ClusterTexts.{headed, cluster_line, cluster_text, digest_words, reached_words, mark_head, mark_line, mark_text}
+use Rattle.rr_folders.specs.Reading.{line_from, line_at, identity_at, head_at, count_at, node_at, cluster_at, number_then_at, digest_at, reached_at, plain_mark_at, far_mark_at, mark_or, mark_at}
 
 -- a step that was taken only where a test held
 cond_some_of : {A : Type 0} (b : Bool) (x : Option A) (y : A) → cond b x None ≡ Some y → (b ≡ true) × (x ≡ Some y)
@@ -136,26 +140,211 @@ cluster_again c h =
 pub cluster_only : (bytes : List ℕ) (r : Option Cluster) → r ≡ cluster_at bytes → (c : Cluster) → IsCluster c → bytes ≡ cluster_text c → r ≡ Some c
 cluster_only bytes r is c h text = is ∙ ap cluster_at text ∙ cluster_again c h
 
+-- ---- how far an area came
+
+-- a digest, then more
+abbrev digest_then : Digest → List ℕ → List ℕ
+digest_then d rest = decimal d.first ++ 32 ∷ (decimal d.second ++ 32 ∷ (decimal d.third ++ 32 ∷ (decimal d.fourth ++ 32 ∷ rest)))
+
+-- how far an area came, then more
+abbrev reached_then : Reached → List ℕ → List ℕ
+reached_then r rest = decimal r.epoch ++ 32 ∷ (decimal r.length ++ 32 ∷ digest_then r.digest rest)
+
+-- a mark's line, with its words in a row
+abbrev mark_words : Identity → Option Course → List ℕ → List ℕ
+mark_words i None rest = headed (codes "node-1") i rest
+mark_words i (Some c) rest = headed (codes "node-2") i (reached_then c.from (reached_then c.to rest))
+
+digest_in_row : (d : Digest) (rest : List ℕ) → digest_words d ++ 32 ∷ rest ≡ digest_then d rest
+digest_in_row d rest =
+    append_assoc (decimal d.first) (32 ∷ (decimal d.second ++ 32 ∷ (decimal d.third ++ 32 ∷ decimal d.fourth))) (32 ∷ rest)
+    ∙ ap (λ (y : List ℕ). decimal d.first ++ 32 ∷ y) (append_assoc (decimal d.second) (32 ∷ (decimal d.third ++ 32 ∷ decimal d.fourth)) (32 ∷ rest)
+    ∙ ap (λ (y : List ℕ). decimal d.second ++ 32 ∷ y) (append_assoc (decimal d.third) (32 ∷ decimal d.fourth) (32 ∷ rest)))
+
+reached_in_row : (r : Reached) (rest : List ℕ) → reached_words r ++ 32 ∷ rest ≡ reached_then r rest
+reached_in_row r rest =
+    append_assoc (decimal r.epoch) (32 ∷ (decimal r.length ++ 32 ∷ digest_words r.digest)) (32 ∷ rest)
+    ∙ ap (λ (y : List ℕ). decimal r.epoch ++ 32 ∷ y) (append_assoc (decimal r.length) (32 ∷ digest_words r.digest) (32 ∷ rest)
+    ∙ ap (λ (y : List ℕ). decimal r.length ++ 32 ∷ y) (digest_in_row r.digest rest))
+
+headed_in_row : (word : List ℕ) (i : Identity) (words rest : List ℕ) → headed word i words ++ rest ≡ headed word i (words ++ rest)
+headed_in_row word i words rest =
+    append_assoc word (32 ∷ (decimal i.first ++ 32 ∷ (decimal i.second ++ 32 ∷ words))) rest
+    ∙ ap (λ (y : List ℕ). word ++ 32 ∷ y) (append_assoc (decimal i.first) (32 ∷ (decimal i.second ++ 32 ∷ words)) rest
+    ∙ ap (λ (y : List ℕ). decimal i.first ++ 32 ∷ y) (append_assoc (decimal i.second) (32 ∷ words) rest))
+
+line_in_row : (i : Identity) (far : Option Course) (p : ℕ) → mark_head i far ++ 32 ∷ decimal p ≡ mark_words i far (decimal p)
+line_in_row i None p =
+    append_assoc (codes "node-1") (32 ∷ (decimal i.first ++ 32 ∷ decimal i.second)) (32 ∷ decimal p)
+    ∙ ap (λ (y : List ℕ). codes "node-1" ++ 32 ∷ y) (append_assoc (decimal i.first) (32 ∷ decimal i.second) (32 ∷ decimal p))
+line_in_row i (Some c) p =
+    headed_in_row (codes "node-2") i (reached_words c.from ++ 32 ∷ reached_words c.to) (32 ∷ decimal p)
+    ∙ ap (λ (y : List ℕ). headed (codes "node-2") i y) (append_assoc (reached_words c.from) (32 ∷ reached_words c.to) (32 ∷ decimal p)
+    ∙ ap (λ (y : List ℕ). reached_words c.from ++ 32 ∷ y) (reached_in_row c.to (decimal p))
+    ∙ reached_in_row c.from (reached_then c.to (decimal p)))
+
+-- a number that was read, and the text that it was read from
+abbrev WasNumber : List ℕ → ℕ × List ℕ → Type 0
+WasNumber text x = (x.0 < 2 ^ 64) × (text ≡ decimal x.0 ++ 32 ∷ x.1)
+
+number_then_takes : (text : List ℕ) (x : ℕ × List ℕ) → number_then_at text ≡ Some x → WasNumber text x
+number_then_takes text x e =
+    let w = bind_some (cut_at 32 text) (λ w. number_at w.0 >>= λ n. Some (n, w.1)) x e in
+    let n = bind_some (number_at w.0.0) (λ n. Some (n, w.0.1)) x w.2 in
+    let t = number_takes w.0.0 n.0 n.1 in
+    subst (λ (y : ℕ × List ℕ). WasNumber text y) (same_Some (n.0, w.0.1) x n.2)
+    (t.1, cut_takes 32 text w.0.0 w.0.1 w.1 ∙ ap (λ (y : List ℕ). y ++ 32 ∷ w.0.1) (sym t.0))
+
+number_then_again : (n : ℕ) (rest : List ℕ) → n < 2 ^ 64 → number_then_at (decimal n ++ 32 ∷ rest) ≡ Some (n, rest)
+number_then_again n rest h = rw (cut_again 32 33 (decimal n) rest (omega arith) (decimal_plain n h), number_again n h) refl
+
+abbrev WasDigest : List ℕ → Digest × List ℕ → Type 0
+WasDigest text x = IsDigest x.0 × (text ≡ digest_then x.0 x.1)
+
+digest_takes : (text : List ℕ) (x : Digest × List ℕ) → digest_at text ≡ Some x → WasDigest text x
+digest_takes text x e =
+    let a = bind_some (number_then_at text) (λ a. number_then_at a.1 >>= λ b. number_then_at b.1 >>= λ c. number_then_at c.1 >>= λ d. Some (record { first = a.0; second = b.0; third = c.0; fourth = d.0 }, d.1)) x e in
+    let b = bind_some (number_then_at a.0.1) (λ b. number_then_at b.1 >>= λ c. number_then_at c.1 >>= λ d. Some (record { first = a.0.0; second = b.0; third = c.0; fourth = d.0 }, d.1)) x a.2 in
+    let c = bind_some (number_then_at b.0.1) (λ c. number_then_at c.1 >>= λ d. Some (record { first = a.0.0; second = b.0.0; third = c.0; fourth = d.0 }, d.1)) x b.2 in
+    let d = bind_some (number_then_at c.0.1) (λ d. Some (record { first = a.0.0; second = b.0.0; third = c.0.0; fourth = d.0 }, d.1)) x c.2 in
+    let first = number_then_takes text a.0 a.1 in
+    let second = number_then_takes a.0.1 b.0 b.1 in
+    let third = number_then_takes b.0.1 c.0 c.1 in
+    let fourth = number_then_takes c.0.1 d.0 d.1 in
+    let made : Digest = record { first = a.0.0; second = b.0.0; third = c.0.0; fourth = d.0.0 } in
+    let text_is : text ≡ digest_then made d.0.1 =
+    first.1
+    ∙ ap (λ (y : List ℕ). decimal a.0.0 ++ 32 ∷ y) second.1
+    ∙ ap (λ (y : List ℕ). decimal a.0.0 ++ 32 ∷ (decimal b.0.0 ++ 32 ∷ y)) third.1
+    ∙ ap (λ (y : List ℕ). decimal a.0.0 ++ 32 ∷ (decimal b.0.0 ++ 32 ∷ (decimal c.0.0 ++ 32 ∷ y))) fourth.1
+    in
+    subst (λ (y : Digest × List ℕ). WasDigest text y) (same_Some (made, d.0.1) x d.2)
+    (record { first = first.0; second = second.0; third = third.0; fourth = fourth.0 }, text_is)
+
+digest_again : (d : Digest) (rest : List ℕ) → IsDigest d → digest_at (digest_then d rest) ≡ Some (d, rest)
+digest_again d rest h =
+    rw (
+      number_then_again d.first (decimal d.second ++ 32 ∷ (decimal d.third ++ 32 ∷ (decimal d.fourth ++ 32 ∷ rest))) h.first,
+      number_then_again d.second (decimal d.third ++ 32 ∷ (decimal d.fourth ++ 32 ∷ rest)) h.second,
+      number_then_again d.third (decimal d.fourth ++ 32 ∷ rest) h.third,
+      number_then_again d.fourth rest h.fourth,
+    ) refl
+
+digest_plain : (d : Digest) (rest : List ℕ) → IsDigest d → AtLeast 32 rest → AtLeast 32 (digest_then d rest)
+digest_plain d rest h more =
+    joined (decimal d.first) _ (decimal_plain d.first h.first) (joined (decimal d.second) _ (decimal_plain d.second h.second)
+    (joined (decimal d.third) _ (decimal_plain d.third h.third) (joined (decimal d.fourth) rest (decimal_plain d.fourth h.fourth) more)))
+
+abbrev WasReached : List ℕ → Reached × List ℕ → Type 0
+WasReached text x = IsReached x.0 × (text ≡ reached_then x.0 x.1)
+
+reached_takes : (text : List ℕ) (x : Reached × List ℕ) → reached_at text ≡ Some x → WasReached text x
+reached_takes text x e =
+    let a = bind_some (number_then_at text) (λ e. number_then_at e.1 >>= λ l. digest_at l.1 >>= λ d. Some (record { epoch = e.0; length = l.0; digest = d.0 }, d.1)) x e in
+    let l = bind_some (number_then_at a.0.1) (λ l. digest_at l.1 >>= λ d. Some (record { epoch = a.0.0; length = l.0; digest = d.0 }, d.1)) x a.2 in
+    let d = bind_some (digest_at l.0.1) (λ d. Some (record { epoch = a.0.0; length = l.0.0; digest = d.0 }, d.1)) x l.2 in
+    let epoch = number_then_takes text a.0 a.1 in
+    let len = number_then_takes a.0.1 l.0 l.1 in
+    let digest = digest_takes l.0.1 d.0 d.1 in
+    let made : Reached = record { epoch = a.0.0; length = l.0.0; digest = d.0.0 } in
+    let text_is : text ≡ reached_then made d.0.1 =
+    epoch.1
+    ∙ ap (λ (y : List ℕ). decimal a.0.0 ++ 32 ∷ y) len.1
+    ∙ ap (λ (y : List ℕ). decimal a.0.0 ++ 32 ∷ (decimal l.0.0 ++ 32 ∷ y)) digest.1
+    in
+    subst (λ (y : Reached × List ℕ). WasReached text y) (same_Some (made, d.0.1) x d.2) (record { epoch = epoch.0; length = len.0; digest = digest.0 }, text_is)
+
+reached_again : (r : Reached) (rest : List ℕ) → IsReached r → reached_at (reached_then r rest) ≡ Some (r, rest)
+reached_again r rest h =
+    rw (
+      number_then_again r.epoch (decimal r.length ++ 32 ∷ digest_then r.digest rest) h.epoch,
+      number_then_again r.length (digest_then r.digest rest) h.length,
+      digest_again r.digest rest h.digest,
+    ) refl
+
+reached_plain : (r : Reached) (rest : List ℕ) → IsReached r → AtLeast 32 rest → AtLeast 32 (reached_then r rest)
+reached_plain r rest h more =
+    joined (decimal r.epoch) _ (decimal_plain r.epoch h.epoch) (joined (decimal r.length) _ (decimal_plain r.length h.length) (digest_plain r.digest rest h.digest more))
+
 -- ---- the file in a node's folder
+
+-- a mark whose line was read
+abbrev WasMark : List ℕ → Mark → Type 0
+WasMark text m = IsMark m × (text ≡ mark_line m)
+
+plain_mark_takes : (text : List ℕ) (m : Mark) → plain_mark_at text ≡ Some m → WasMark text m
+plain_mark_takes text m e =
+    let h = bind_some (head_at (codes "node-1") text) (λ h. node_at h.1 >>= λ p. Some (record { identity = h.0; node = p; course = None })) m e in
+    let p = bind_some (node_at h.0.1) (λ p. Some (record { identity = h.0.0; node = p; course = None })) m h.2 in
+    let head = head_takes (codes "node-1") text h.0 h.1 in
+    let node = node_takes 7 h.0.1 p.0 (omega arith) p.1 in
+    let made : Mark = record { identity = h.0.0; node = p.0; course = None } in
+    let text_is : text ≡ mark_line made = head.1 ∙ ap (λ (y : List ℕ). headed (codes "node-1") h.0.0 y) (sym node.0) ∙ sym (line_in_row h.0.0 None p.0) in
+    subst (λ (d : Mark). WasMark text d) (same_Some made m p.2) (record { identity = head.0; node = node.1; course = tt }, text_is)
+
+far_mark_takes : (text : List ℕ) (m : Mark) → far_mark_at text ≡ Some m → WasMark text m
+far_mark_takes text m e =
+    let h = bind_some (head_at (codes "node-2") text) (λ h. reached_at h.1 >>= λ a. reached_at a.1 >>= λ b. node_at b.1 >>= λ p. Some (record { identity = h.0; node = p; course = Some (record { from = a.0; to = b.0 }) })) m e in
+    let a = bind_some (reached_at h.0.1) (λ a. reached_at a.1 >>= λ b. node_at b.1 >>= λ p. Some (record { identity = h.0.0; node = p; course = Some (record { from = a.0; to = b.0 }) })) m h.2 in
+    let b = bind_some (reached_at a.0.1) (λ b. node_at b.1 >>= λ p. Some (record { identity = h.0.0; node = p; course = Some (record { from = a.0.0; to = b.0 }) })) m a.2 in
+    let p = bind_some (node_at b.0.1) (λ p. Some (record { identity = h.0.0; node = p; course = Some (record { from = a.0.0; to = b.0.0 }) })) m b.2 in
+    let head = head_takes (codes "node-2") text h.0 h.1 in
+    let from = reached_takes h.0.1 a.0 a.1 in
+    let to = reached_takes a.0.1 b.0 b.1 in
+    let node = node_takes 7 b.0.1 p.0 (omega arith) p.1 in
+    let far : Course = record { from = a.0.0; to = b.0.0 } in
+    let made : Mark = record { identity = h.0.0; node = p.0; course = Some far } in
+    let text_is : text ≡ mark_line made =
+    head.1
+    ∙ ap (λ (y : List ℕ). headed (codes "node-2") h.0.0 y) (from.1 ∙ ap (λ (y : List ℕ). reached_then a.0.0 y) (to.1 ∙ ap (λ (y : List ℕ). reached_then b.0.0 y) (sym node.0)))
+    ∙ sym (line_in_row h.0.0 (Some far) p.0)
+    in
+    subst (λ (d : Mark). WasMark text d) (same_Some made m p.2) (record { identity = head.0; node = node.1; course = record { from = from.0; to = to.0 } }, text_is)
+
+either_mark_takes : (text : List ℕ) (x : Option Mark) (m : Mark) → plain_mark_at text ≡ x → mark_or x (far_mark_at text) ≡ Some m → WasMark text m
+either_mark_takes text None m is e = far_mark_takes text m e
+either_mark_takes text (Some k) m is e = plain_mark_takes text m (is ∙ e)
 
 pub mark_takes : (bytes : List ℕ) (m : Mark) → mark_at bytes ≡ Some m → IsMark m × (bytes ≡ mark_text m)
 mark_takes bytes m e =
-    let l = bind_some (line_at bytes) (λ text. head_at (codes "node-1") text >>= λ h. node_at h.1 >>= λ p. Some (record { identity = h.0; node = p })) m e in
-    let h = bind_some (head_at (codes "node-1") l.0) (λ h. node_at h.1 >>= λ p. Some (record { identity = h.0; node = p })) m l.2 in
-    let p = bind_some (node_at h.0.1) (λ p. Some (record { identity = h.0.0; node = p })) m h.2 in
-    let head = head_takes (codes "node-1") l.0 h.0 h.1 in
-    let node = node_takes 7 h.0.1 p.0 (omega arith) p.1 in
-    let made : Mark = record { identity = h.0.0; node = p.0 } in
-    let text : l.0 ≡ mark_line made = head.1 ∙ ap (λ (y : List ℕ). headed (codes "node-1") h.0.0 y) (sym node.0) in
-    subst (λ (d : Mark). IsMark d × (bytes ≡ mark_text d)) (same_Some made m p.2)
-    (record { identity = head.0; node = node.1 }, line_takes bytes l.0 l.1 ∙ ap (λ (y : List ℕ). y ++ 10 ∷ []) text)
+    let l = bind_some (line_at bytes) (λ text. mark_or (plain_mark_at text) (far_mark_at text)) m e in
+    let t = either_mark_takes l.0 (plain_mark_at l.0) m refl l.2 in
+    (t.0, line_takes bytes l.0 l.1 ∙ ap (λ (y : List ℕ). y ++ 10 ∷ []) t.1)
+
+-- a head of another word isn't read
+head_other : (word other : List ℕ) (i : Identity) (rest : List ℕ) → AtLeast 33 other → bytes_eq other word ≡ false → head_at word (headed other i rest) ≡ None
+head_other word other i rest plain differs =
+    rw (cut_again 32 33 other (decimal i.first ++ 32 ∷ (decimal i.second ++ 32 ∷ rest)) (omega arith) plain, differs) refl
+
+node_line_plain : (p : ℕ) → p < 7 → AtLeast 32 (decimal p)
+node_line_plain p h = AtLeast-weaken 32 33 (decimal p) (omega arith) (decimal_plain p (omega (arith, h)))
+
+mark_line_plain : (i : Identity) (far : Option Course) (p : ℕ) → IsIdentity i → IfSome far IsCourse → p < 7 → AtLeast 32 (mark_words i far (decimal p))
+mark_line_plain i None p h far lt = headed_plain (codes "node-1") i (decimal p) (plain_by_test (codes "node-1") refl) h (node_line_plain p lt)
+mark_line_plain i (Some c) p h far lt =
+    headed_plain (codes "node-2") i _ (plain_by_test (codes "node-2") refl) h (reached_plain c.from _ far.from (reached_plain c.to (decimal p) far.to (node_line_plain p lt)))
+
+line_again_mark : (i : Identity) (far : Option Course) (p : ℕ) → IsIdentity i → IfSome far IsCourse → p < 7
+    → mark_or (plain_mark_at (mark_words i far (decimal p))) (far_mark_at (mark_words i far (decimal p))) ≡ Some (record { identity = i; node = p; course = far })
+line_again_mark i None p h far lt =
+    rw (head_again (codes "node-1") i (decimal p) (plain_by_test (codes "node-1") refl) refl h, node_again 7 p (omega arith) lt) refl
+line_again_mark i (Some c) p h far lt =
+    rw (
+      head_other (codes "node-1") (codes "node-2") i (reached_then c.from (reached_then c.to (decimal p))) (plain_by_test (codes "node-2") refl) refl,
+      head_again (codes "node-2") i (reached_then c.from (reached_then c.to (decimal p))) (plain_by_test (codes "node-2") refl) refl h,
+      reached_again c.from (reached_then c.to (decimal p)) far.from,
+      reached_again c.to (decimal p) far.to,
+      node_again 7 p (omega arith) lt,
+    ) refl
 
 pub mark_again : (m : Mark) → IsMark m → mark_at (mark_text m) ≡ Some m
 mark_again m h =
-    let plain : AtLeast 33 (codes "node-1") = plain_by_test (codes "node-1") refl in
-    let node : AtLeast 33 (decimal m.node) = decimal_plain m.node (omega (arith, h.node)) in
-    let line : AtLeast 32 (mark_line m) = headed_plain (codes "node-1") m.identity _ plain h.identity (AtLeast-weaken 32 33 (decimal m.node) (omega arith) node) in
-    rw (line_again (mark_line m) line, head_again (codes "node-1") m.identity (decimal m.node) plain refl h.identity, node_again 7 m.node (omega arith) h.node) refl
+    let row = line_in_row m.identity m.course m.node in
+    let plain : AtLeast 32 (mark_line m) = subst (λ (y : List ℕ). AtLeast 32 y) (sym row) (mark_line_plain m.identity m.course m.node h.identity h.course h.node) in
+    let again : mark_or (plain_mark_at (mark_line m)) (far_mark_at (mark_line m)) ≡ Some m =
+    ap (λ (y : List ℕ). mark_or (plain_mark_at y) (far_mark_at y)) row ∙ line_again_mark m.identity m.course m.node h.identity h.course h.node
+    in
+    rw (line_again (mark_line m) plain) again
 
 pub mark_only : (bytes : List ℕ) (r : Option Mark) → r ≡ mark_at bytes → (m : Mark) → IsMark m → bytes ≡ mark_text m → r ≡ Some m
 mark_only bytes r is m h text = is ∙ ap mark_at text ∙ mark_again m h

@@ -1,6 +1,6 @@
 -- Claims of the names of a registry give the same registry.
-use Rattle.std.proofs.Common.{◌≡◌, ℕ, ◌+◌, ◌<◌, ◌≤◌, Bool, true, false, ◌==◌, ◌&&◌, nat_lt, if◌then◌else◌, List, [], ◌∷◌, ◌++◌, length, map, Option, None, Some, Ordering, refl, sym, ap, ap₂, ◌∙◌, arith, subst, eqb-true, append_assoc, append-nil, get_or, take, drop}
-use Rattle.std.specs.declared.cmp.Ordering.TheVariants.{Less, Equal, Greater}
+use Rattle.std.proofs.Common.{◌≡◌, ℕ, ◌+◌, ◌<◌, ◌≤◌, Bool, true, false, ◌==◌, nat_lt, List, [], ◌∷◌, ◌++◌, length, map, None, refl, sym, ap, ◌∙◌, arith, subst, eqb-true, append_assoc, append-nil, get_or, take, drop}
+use Rattle.std.specs.declared.cmp.Ordering.TheVariants.{Less, Greater}
 use Rattle.std.specs.Ordering.{is_eq}
 use Rattle.std.specs.Str.{bytes_eq}
 use Rattle.std.specs.List.{AllByRecursion, fold}
@@ -8,10 +8,9 @@ use Rattle.std.specs.BTreeMap.{insert_entry}
 use Rattle.std.proofs.lemmas.Bool.{lt-ltb, ne_eqb, eq-eqb}
 use Rattle.std.proofs.lemmas.List.{drop_more, take_more}
 use Rattle.std.proofs.lemmas.Map.Text.{is_eq-slice_cmp}
-use Rattle.rr_types.specs.declared.command.RequestNo.{RequestNo}
 use Rattle.rr_types.specs.declared.command.Command.{Command}
 use Rattle.rr_types.specs.Limits.{max_bound}
-use Rattle.rr_types.specs.Registry.{Holding, Bindings, holding_of, apply, is_same_request, has_request, firsts, firsts_beside, registry_of}
+use Rattle.rr_types.specs.Registry.{Holding, Bindings, holding_of, apply, is_same_request, has_request, firsts_beside, registry_of}
 use Rattle.rr_text.specs.declared.script_line.ScriptLine.{ScriptLine}
 use Rattle.rr_text.specs.declared.script_line.ScriptLine.TheVariants.{Submit}
 use Rattle.rr_text.specs.Scripted.{IsScriptLine}

@@ -1,7 +1,7 @@
 -- The calls of a reservation, one behind the other: all of them, or those up to the one that failed.
-use Rattle.std.proofs.Common.{◌≡◌, ℕ, Bool, true, false, List, [], ◌∷◌, ◌++◌, Result, Ok, Err, is_ok, refl}
+use Rattle.std.proofs.Common.{◌≡◌, ℕ, Bool, true, false, List, [], ◌∷◌, Result, Ok, Err, is_ok}
 use Rattle.std.specs.Prelude.{IsOk, IsErr}
-use Rattle.rr_folders.specs.NumberCalls.{NumberCall, reads, writes, syncs, renames, syncs_folder, replaced, IsCutShort, unwritten, unsynced, unrenamed, unkept, IsAsked, none, then}
+use Rattle.rr_folders.specs.NumberCalls.{NumberCall, writes, syncs, renames, syncs_folder, replaced, IsCutShort, unwritten, unsynced, unrenamed, unkept, IsAsked, none, then}
 
 module _ {F : Type 0} (gives : F → NumberCall → F → Type 0) where
   -- one call alone

@@ -1,6 +1,5 @@
 -- What a reservation comes to, by what its read found and what its other calls gave.
-use Rattle.std.proofs.Common.{◌≡◌, ◌∙◌, ℕ, ◌+◌, max, true, false, List, [], ◌∷◌, Option, None, Some, Result, Ok, Err, ap, sym, subst, refl}
-use Rattle.std.specs.Prelude.{IfErr}
+use Rattle.std.proofs.Common.{◌≡◌, ◌∙◌, ℕ, ◌+◌, max, true, List, Option, None, Some, ap, sym, subst}
 use Rattle.rr_types.specs.declared.refusal.Refusal.{Refusal}
 use Rattle.rr_types.specs.declared.refusal.Refusal.TheVariants.{OutOfMemory, Malformed, Device}
 use Rattle.rr_folders.specs.Requests.{Reserved}

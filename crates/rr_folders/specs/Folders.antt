@@ -1,14 +1,12 @@
 -- What is read of the folder of a node.
 use Rattle.std.specs.Prelude.{ℕ, if◌then◌else◌, nat_lt, List, Option, None, Some}
 use Rattle.rr_types.specs.declared.refusal.Refusal.TheVariants.{Damaged}
-use Rattle.rr_disk.specs.declared.area.Area.{Area}
 use Rattle.rr_frame.specs.declared.version.Version.{Version}
 use Rattle.rr_frame.specs.declared.version.Version.TheVariants.{One, Two}
 use Rattle.rr_journal.specs.declared.inspection.AreaReport.{AreaReport}
 use Rattle.rr_journal.specs.Ends.{area_number}
 use Rattle.rr_journal.specs.Image.{Content, Found, Unformatted, Broken, Active, Outdated, found}
 use Rattle.rr_journal.specs.Inspect.{Inspected, Tells, Breaks, inspected}
-use Rattle.rr_folders.specs.declared.verify_folder.Folder.{Folder}
 use Rattle.rr_folders.specs.declared.verify_folder.Reading.{Reading}
 use Rattle.rr_folders.specs.declared.verify_folder.Reading.TheVariants.{Facts, Blank, Refused}
 

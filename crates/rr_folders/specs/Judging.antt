@@ -1,18 +1,20 @@
 -- Whether the folders of a cluster may be opened, by what was found in each, from node 0 on.
-use Rattle.std.specs.Prelude.{◌≡◌, ℕ, ◌+◌, ◌==◌, ◌&&◌, if◌then◌else◌, Bool, true, false, List, [], ◌∷◌, Option, None, Some}
+use Rattle.std.specs.Prelude.{◌≡◌, ◌⊎◌, ◌||◌, nat_lt, ℕ, ◌+◌, ◌==◌, ◌&&◌, if◌then◌else◌, Bool, true, false, List, [], ◌∷◌, Option, None, Some}
 use Rattle.std.specs.List.{list_all}
 use Rattle.rr_types.specs.Nodes.{has_member}
 use Rattle.rr_folders.specs.declared.cluster.Identity.{Identity}
 use Rattle.rr_folders.specs.declared.cluster.Cluster.{Cluster}
 use Rattle.rr_folders.specs.declared.cluster.Mark.{Mark}
+use Rattle.rr_folders.specs.declared.cluster.Reached.{Reached}
+use Rattle.rr_folders.specs.declared.cluster.Course.{Course}
 use Rattle.rr_folders.specs.declared.front.Content.{Content}
 use Rattle.rr_folders.specs.declared.front.Content.TheVariants as contents
 use Rattle.rr_folders.specs.declared.judging.Found.{Found}
 use Rattle.rr_folders.specs.declared.judging.Fault.{Fault}
-use Rattle.rr_folders.specs.declared.judging.Fault.TheVariants.{Missing, Blank, Cut, OtherNode, OtherNodes, OtherCluster, Unmarked}
+use Rattle.rr_folders.specs.declared.judging.Fault.TheVariants.{Missing, Blank, Cut, OtherNode, OtherNodes, OtherCluster, Unmarked, Older, Shorter, Altered, Outdated}
 use Rattle.rr_folders.specs.declared.judging.Verdict.{Verdict}
 use Rattle.rr_folders.specs.declared.judging.Verdict.TheVariants.{Open, Begin, TakeOn, Refused}
-use Rattle.rr_folders.specs.Clusters.{same_identity}
+use Rattle.rr_folders.specs.Clusters.{same_identity, reaches, is_behind}
 
 -- ---- one folder
 
@@ -44,10 +46,47 @@ abbrev pub ◌or_else◌ : Option Fault → Option Fault → Option Fault
 (Some x) or_else y = Some x
 None or_else y = y
 
+-- how far a folder's mark says that its active area came
+abbrev pub course_of : Option Mark → Option Course
+course_of None = None
+course_of (Some m) = m.course
+
+-- what an area of the marked epoch that isn't as far as marked has against it: fewer bytes, or others
+abbrev pub lapse_of : Reached → Reached → Fault
+lapse_of r to = if nat_lt r.length to.length then Shorter else Altered
+
+-- what an active area that came this far has against it: it isn't the marked one, or not as far
+abbrev pub lapse_fault : Course → Reached → Option Fault
+lapse_fault c r =
+    if reaches r c.from || reaches r c.to then None
+    else (if r.epoch == c.to.epoch then Some (lapse_of r c.to) else (if r.epoch == c.from.epoch then Some (lapse_of r c.from) else Some Older))
+
+-- that a disk forgot what its folder's mark says: its active area isn't as far
+abbrev pub forgetful_fault : Option Course → Option Reached → Option Fault
+forgetful_fault None active = None
+forgetful_fault (Some c) None = Some Older
+forgetful_fault (Some c) (Some r) = lapse_fault c r
+
+-- what a mark has against it of which it was noted once how far it says that the disk came: it isn't as far any more
+abbrev pub lag_fault : Option Course → Option Course → Option Fault
+lag_fault None far = None
+lag_fault (Some n) None = Some Outdated
+lag_fault (Some n) (Some c) = if is_behind c.to n.from then Some Outdated else None
+
+-- that a folder is older than what was noted of it: its mark is behind the one that was noted of the same cluster
+abbrev pub outdated_fault : Option Mark → Option Mark → Option Fault
+outdated_fault None mark = None
+outdated_fault (Some n) None = None
+outdated_fault (Some n) (Some m) = if same_identity n.identity m.identity then lag_fault n.course m.course else None
+
+-- that a node forgot something, by its folder's mark or by what was noted of that
+abbrev pub memory_fault : Found → Option Fault
+memory_fault f = forgetful_fault (course_of f.mark) f.active or_else outdated_fault f.noted f.mark
+
 -- what is lost of a node: nothing while it is being formatted. Without a cluster's file, each node counts as formatted
 abbrev pub disk_fault : Option ℕ → ℕ → Found → Option Fault
-disk_fault None p f = loss_fault f.content
-disk_fault (Some formatted) p f = if has_member formatted p then (loss_fault f.content or_else unmarked_fault f.mark) else None
+disk_fault None p f = loss_fault f.content or_else memory_fault f
+disk_fault (Some formatted) p f = if has_member formatted p then ((loss_fault f.content or_else unmarked_fault f.mark) or_else memory_fault f) else None
 
 -- what is wrong with the folder of node p of n
 abbrev pub fault_of : Identity → ℕ → Option ℕ → ℕ → Found → Option Fault
@@ -131,23 +170,44 @@ HasDisk n p f = f.content ≡ contents.Holds p n
 
 -- a folder that is marked as node p's of a cluster
 abbrev pub IsMarked : Identity → ℕ → Found → Type 0
-IsMarked i p f = f.mark ≡ Some (record { identity = i; node = p })
+IsMarked i p f = (far : Option Course) × (f.mark ≡ Some (record { identity = i; node = p; course = far }))
 
--- a node that has been formatted has its disk, and its folder bears its mark
+-- an active area came as far as it is to
+abbrev pub IsAsFar : Option Course → Option Reached → Type 0
+IsAsFar None active = Unit {0}
+IsAsFar (Some c) active = (r : Reached) × (active ≡ Some r) × ((r ≡ c.from) ⊎ (r ≡ c.to))
+
+-- a mark that says how far a disk came is as far as was noted
+abbrev pub IsAsNoted : Option Course → Option Course → Type 0
+IsAsNoted None far = Unit {0}
+IsAsNoted (Some n) None = ⊥
+IsAsNoted (Some n) (Some c) = is_behind c.to n.from ≡ false
+
+-- a mark isn't behind the one that was noted of the same cluster
+abbrev pub IsNotBehind : Option Mark → Option Mark → Type 0
+IsNotBehind None mark = Unit {0}
+IsNotBehind (Some n) None = Unit {0}
+IsNotBehind (Some n) (Some m) = same_identity n.identity m.identity ≡ true → IsAsNoted n.course m.course
+
+-- a folder whose active area came as far as its mark says, and whose mark came as far as was noted
+abbrev pub KeepsItsMark : Found → Type 0
+KeepsItsMark f = IsAsFar (course_of f.mark) f.active × IsNotBehind f.noted f.mark
+
+-- a node that has been formatted has its disk, its folder bears its mark, and the disk came as far as that says
 abbrev pub KeepsItsDisk : Cluster → ℕ → Found → Type 0
-KeepsItsDisk c p f = has_member c.formatted p ≡ true → HasDisk c.nodes p f × IsMarked c.identity p f
+KeepsItsDisk c p f = has_member c.formatted p ≡ true → HasDisk c.nodes p f × IsMarked c.identity p f × KeepsItsMark f
 
 -- a folder without a disk and without a mark: no node was ever in it
 abbrev pub IsFresh : ℕ → Found → Type 0
 IsFresh p f = (is_blank f.content ≡ true) × (f.mark ≡ None)
 
 -- what may be relied on: a cluster is opened only as what its file says; nodes are begun only where no folder has a disk or a
--- mark; and a cluster without a file is taken on only where each folder has its node's disk
+-- mark; and a cluster without a file is taken on only where each folder has its node's disk, as far as its mark says
 abbrev pub Guards : ℕ → Option Cluster → List Found → Verdict → Type 0
 Guards n None found (Open d) = ⊥
 Guards n (Some c) found (Open d) = (d ≡ c) × (c.nodes ≡ n) × Each (KeepsItsDisk c) 0 found
 Guards n (Some c) found Begin = ⊥
 Guards n None found Begin = Each IsFresh 0 found
 Guards n (Some c) found (TakeOn i) = ⊥
-Guards n None found (TakeOn i) = Each (HasDisk n) 0 found
+Guards n None found (TakeOn i) = Each (λ p f. HasDisk n p f × KeepsItsMark f) 0 found
 Guards n file found (Refused p x) = Unit {0}

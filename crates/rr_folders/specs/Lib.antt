@@ -1,3 +1,5 @@
+pub mod Judged
+pub mod Marks
 pub mod NumberCalls
 pub mod Requests
 pub mod Clusters
@@ -10,3 +12,4 @@ pub mod Agreement
 pub mod Crashed
 pub mod Exports
 pub mod Texts
+pub mod Surveys

@@ -1,5 +1,5 @@
 -- What a reservation of request numbers asks of the file that holds the first number that is not reserved.
-use Rattle.std.specs.Prelude.{◌≡◌, ℕ, ◌+◌, ◌^◌, ◌≤◌, max, ◌⊎◌, Bool, true, false, List, [], ◌∷◌, ◌++◌, Option, None, Some, Result, Ok, Err, Vec, decimal}
+use Rattle.std.specs.Prelude.{◌≡◌, ℕ, ◌+◌, ◌^◌, ◌≤◌, max, nat_le, Bool, true, false, List, [], ◌∷◌, ◌++◌, Option, None, Some, Result, Ok, Err, Vec, decimal}
 use Rattle.std.specs.declared.alloc.Global.{Global}
 use Rattle.rr_types.specs.declared.refusal.Refusal.{Refusal}
 use Rattle.rr_types.specs.declared.refusal.Refusal.TheVariants.{OutOfMemory, Malformed, TooLarge, Device}
@@ -27,6 +27,11 @@ abbrev pub free_by : Option (List ℕ) → Option ℕ
 free_by None = Some 0
 free_by (Some bytes) = stored_number bytes
 
+-- whether no block can be had, by the first number that is not reserved
+abbrev pub has_no_block : Option ℕ → Bool
+has_no_block None = true
+has_no_block (Some first) = nat_le (2 ^ 64) (first + 1048576)
+
 -- what the file holds when the numbers below this one are reserved
 abbrev pub number_text : ℕ → List ℕ
 number_text end = decimal end ++ 10 ∷ []
@@ -47,6 +52,10 @@ module _ {F : Type 0} (gives : F → NumberCall → F → Type 0) where
   pub data IsAsked : List NumberCall → F → F → Type 0 where
     none : (file : F) → IsAsked [] file file
     then : (call : NumberCall) (calls : List NumberCall) (old mid new : F) → gives old call mid → IsAsked calls mid new → IsAsked (call ∷ calls) old new
+
+  -- the file was read, and nothing else was asked of it: no block can be had, or one can
+  abbrev pub Sees : Bool → F → F → Type 0
+  Sees lacks old new = (found : Option (List ℕ)) × gives old (reads found true) new × (has_no_block (free_by found) ≡ lacks)
 
   -- a block is reserved: it begins at the first number that is free, or at a greater one that was asked for, and the file says so before it is given
   pub data Reserves (least : ℕ) (block : Reserved) (old new : F) : Type 0 where

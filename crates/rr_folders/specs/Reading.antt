@@ -6,6 +6,8 @@ use Rattle.rr_text.specs.Reading.{node_at as node_of_at}
 use Rattle.rr_folders.specs.declared.cluster.Identity.{Identity}
 use Rattle.rr_folders.specs.declared.cluster.Cluster.{Cluster}
 use Rattle.rr_folders.specs.declared.cluster.Mark.{Mark}
+use Rattle.rr_folders.specs.declared.cluster.Digest.{Digest}
+use Rattle.rr_folders.specs.declared.cluster.Reached.{Reached}
 
 -- the text before a line feed, where nothing stands behind that
 abbrev pub line_from : List ℕ × List ℕ → Option (List ℕ)
@@ -47,10 +49,48 @@ cluster_at bytes =
     set_at n w.1 >>= λ s.
     Some (record { identity = h.0; nodes = n; formatted = s })
 
--- the file in a node's folder
-abbrev pub mark_at : List ℕ → Option Mark
-mark_at bytes =
-    line_at bytes >>= λ text.
+-- a number, and the text behind it
+abbrev pub number_then_at : List ℕ → Option (ℕ × List ℕ)
+number_then_at text = cut_at 32 text >>= λ w. number_at w.0 >>= λ n. Some (n, w.1)
+
+-- a digest, and the text behind it
+abbrev pub digest_at : List ℕ → Option (Digest × List ℕ)
+digest_at text =
+    number_then_at text >>= λ a.
+    number_then_at a.1 >>= λ b.
+    number_then_at b.1 >>= λ c.
+    number_then_at c.1 >>= λ d.
+    Some (record { first = a.0; second = b.0; third = c.0; fourth = d.0 }, d.1)
+
+-- how far an area came, and the text behind it
+abbrev pub reached_at : List ℕ → Option (Reached × List ℕ)
+reached_at text =
+    number_then_at text >>= λ e.
+    number_then_at e.1 >>= λ l.
+    digest_at l.1 >>= λ d.
+    Some (record { epoch = e.0; length = l.0; digest = d.0 }, d.1)
+
+-- the file in a node's folder, of a line that doesn't say how far it came
+abbrev pub plain_mark_at : List ℕ → Option Mark
+plain_mark_at text =
     head_at (codes "node-1") text >>= λ h.
     node_at h.1 >>= λ p.
-    Some (record { identity = h.0; node = p })
+    Some (record { identity = h.0; node = p; course = None })
+
+-- the same, of a line that does
+abbrev pub far_mark_at : List ℕ → Option Mark
+far_mark_at text =
+    head_at (codes "node-2") text >>= λ h.
+    reached_at h.1 >>= λ a.
+    reached_at a.1 >>= λ b.
+    node_at b.1 >>= λ p.
+    Some (record { identity = h.0; node = p; course = Some (record { from = a.0; to = b.0 }) })
+
+-- the first of two marks
+abbrev pub mark_or : Option Mark → Option Mark → Option Mark
+mark_or None other = other
+mark_or (Some m) other = Some m
+
+-- the file in a node's folder
+abbrev pub mark_at : List ℕ → Option Mark
+mark_at bytes = line_at bytes >>= λ text. mark_or (plain_mark_at text) (far_mark_at text)

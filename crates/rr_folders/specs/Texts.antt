@@ -1,7 +1,7 @@
 -- What is printed of the folders of a cluster: fields, as lines of words or as objects of JSON.
 use Rattle.std.specs.Prelude.{ℕ, ◌+◌, ◌-◌, Bool, true, false, List, [], ◌∷◌, ◌++◌, length, codes, decimal}
 use Rattle.std.specs.List.{flat_map}
-use Rattle.rr_types.specs.declared.refusal.Refusal.{Refusal}
+use Rattle.rr_types.specs.declared.command.Command.{Command}
 use Rattle.rr_types.specs.Refusal.{refusal_text}
 use Rattle.rr_types.specs.Limits.{instance_count}
 use Rattle.rr_types.specs.Promises.{decided_from}
@@ -65,13 +65,17 @@ abbrev pub reading_lines : Form → ℕ → List Reading → List ℕ
 reading_lines form p [] = []
 reading_lines form p (r ∷ rs) = reading_line form p r ++ reading_lines form (p + 1) rs
 
+-- a field that is a command
+unfoldable pub command_field : Form → List ℕ → Command → List ℕ
+command_field form name c = text_field form name (spaced (command_words c))
+
 -- an instance that two folders decide differently: both places, and the command of each
 abbrev pub clash_fields : Form → Clash → List ℕ
 clash_fields form c =
     number_field form (codes "instance") c.difference.instance ++ number_field form (codes "place") c.place
-    ++ text_field form (codes "command") (spaced (command_words c.difference.one))
+    ++ command_field form (codes "command") c.difference.one
     ++ number_field form (codes "other_place") c.other_place
-    ++ text_field form (codes "other_command") (spaced (command_words c.difference.other))
+    ++ command_field form (codes "other_command") c.difference.other
 
 abbrev pub clash_line : Form → Clash → List ℕ
 clash_line form c = line_of form (codes "differ") (clash_fields form c)

@@ -6,7 +6,7 @@ use crate::judging::Fault;
 use rr_types::{NodeId, Refusal};
 use std::alloc::{AllocError, AllocFailed};
 use std::io;
-use std::io::ErrorKind;
+use std::io::{ErrorKind, Write};
 
 /// Why the folders of a cluster aren't opened.
 #[derive(Drop)]
@@ -42,6 +42,18 @@ impl<T: Drop> From<AllocFailed<T>> for Closed {
 impl From<Refusal> for Closed {
     fn from(_refusal: Refusal) -> Closed {
         Closed::OutOfMemory
+    }
+}
+
+/// Prints the line on a folder that another program has locked, or on a call that failed. For the others nothing is printed.
+///
+/// # Errors
+/// Those of the writer.
+pub fn print_closed<W: Write>(err: &mut W, closed: &Closed) -> io::Result<()> {
+    match closed {
+        Closed::InUse(path) => writeln!(err, "{path}: another program has locked it"),
+        Closed::Failed { path, call, error } => writeln!(err, "{path}: {call}: {error}"),
+        Closed::OutOfMemory | Closed::Unopened(..) | Closed::Refused(..) => Ok(()),
     }
 }
 

@@ -1,7 +1,7 @@
 //! Clusters, and whose a folder is.
 
 ghost use Rattle.std.specs.Prelude.{◌≡◌};
-ghost use Rattle.rr_folders.specs.Clusters.{same_identity};
+ghost use Rattle.rr_folders.specs.Clusters.{same_identity, same_digest, reaches, is_behind};
 
 use rr_types::{NodeId, NodeSet, Nodes};
 
@@ -34,11 +34,74 @@ pub struct Cluster {
     pub formatted: NodeSet,
 }
 
-/// What the file in a node's folder says: whose folder it is.
+/// A digest of bytes, by SHA-256: four times 64 bits.
+#[derive(Clone, Copy, Debug)]
+pub struct Digest {
+    /// The first 64 bits.
+    pub first: u64,
+    /// The second.
+    pub second: u64,
+    /// The third.
+    pub third: u64,
+    /// The last.
+    pub fourth: u64,
+}
+
+impl Digest {
+    /// Whether it is the same digest.
+    pub fn is(self, other: Digest) -> bool
+        ensures { result ≡ same_digest self other }
+    {
+        self.first == other.first
+            && self.second == other.second
+            && self.third == other.third
+            && self.fourth == other.fourth
+    }
+}
+
+/// How far an area came: its epoch, and the digest of so many of its first bytes.
+#[derive(Clone, Copy, Debug)]
+pub struct Reached {
+    /// The epoch of its snapshot.
+    pub epoch: u64,
+    /// How many bytes.
+    pub length: u64,
+    /// Their digest.
+    pub digest: Digest,
+}
+
+impl Reached {
+    /// Whether it is as far as this.
+    pub fn is(self, other: Reached) -> bool
+        ensures { result ≡ reaches self other }
+    {
+        self.epoch == other.epoch && self.length == other.length && self.digest.is(other.digest)
+    }
+
+    /// Whether it isn't as far as this: it has a lower epoch, or the same one and fewer bytes.
+    pub fn is_behind(self, other: Reached) -> bool
+        ensures { result ≡ is_behind self other }
+    {
+        self.epoch < other.epoch || (self.epoch == other.epoch && self.length < other.length)
+    }
+}
+
+/// How far a node's active area came at least: to one of these two. They differ while the node switches to its other area.
+#[derive(Clone, Copy, Debug)]
+pub struct Course {
+    /// Before the switch.
+    pub from: Reached,
+    /// Behind it.
+    pub to: Reached,
+}
+
+/// What the file in a node's folder says: whose folder it is, and how far its disk came.
 #[derive(Clone, Copy, Debug)]
 pub struct Mark {
     /// The cluster.
     pub identity: Identity,
     /// The node.
     pub node: NodeId,
+    /// How far the node's active area came at least. None: it isn't said.
+    pub course: Option<Course>,
 }

@@ -5,9 +5,9 @@ ghost use Rattle.rr_folders.specs.declared.cluster.Cluster.{Cluster as ClusterOf
 ghost use Rattle.rr_folders.specs.declared.cluster.Mark.{Mark as MarkOf};
 ghost use Rattle.rr_folders.specs.Clusters.{IsCluster, IsMark};
 ghost use Rattle.rr_folders.specs.ClusterTexts.{cluster_text, mark_text};
-ghost use Rattle.rr_folders.specs.Reading.{line_at, identity_at, head_at, count_at, node_at, cluster_at, mark_at};
+ghost use Rattle.rr_folders.specs.Reading.{line_at, identity_at, head_at, count_at, node_at, cluster_at, number_then_at, digest_at, reached_at, plain_mark_at, far_mark_at, mark_at};
 
-use crate::cluster::{Cluster, Identity, Mark};
+use crate::cluster::{Cluster, Course, Digest, Identity, Mark, Reached};
 use rr_text::text_read::{cut, number, set};
 use rr_types::{NodeId, Nodes};
 
@@ -75,13 +75,87 @@ fn cluster(bytes: &[u8]) -> Option<Cluster>
     })
 }
 
-// The node of the file in a folder.
+// A number, and the text behind it.
+fn number_then(text: &[u8]) -> Option<(u64, &[u8])>
+    ensures { MatchOption result (number_then_at text.now ≡ None) (λ x. number_then_at text.now ≡ Some (x.0, x.1.now)) }
+{
+    let (word, rest) = cut(text, b' ')?;
+    Some((number(word)?, rest))
+}
+
+// A digest, and the text behind it.
+fn digest(text: &[u8]) -> Option<(Digest, &[u8])>
+    ensures { MatchOption result (digest_at text.now ≡ None) (λ x. digest_at text.now ≡ Some (x.0, x.1.now)) }
+{
+    let (first, rest) = number_then(text)?;
+    let (second, rest) = number_then(rest)?;
+    let (third, rest) = number_then(rest)?;
+    let (fourth, rest) = number_then(rest)?;
+    Some((
+        Digest {
+            first,
+            second,
+            third,
+            fourth,
+        },
+        rest,
+    ))
+}
+
+// How far an area came, and the text behind it.
+fn reached(text: &[u8]) -> Option<(Reached, &[u8])>
+    ensures { MatchOption result (reached_at text.now ≡ None) (λ x. reached_at text.now ≡ Some (x.0, x.1.now)) }
+{
+    let (epoch, rest) = number_then(text)?;
+    let (length, rest) = number_then(rest)?;
+    let (digest, rest) = digest(rest)?;
+    Some((
+        Reached {
+            epoch,
+            length,
+            digest,
+        },
+        rest,
+    ))
+}
+
+// The mark of a line that doesn't say how far it came.
+fn plain_mark(text: &[u8]) -> Option<Mark>
+    ensures { result ≡ plain_mark_at text.now }
+{
+    let (identity, rest) = head(b"node-1", text)?;
+    let node = node(rest)?;
+    Some(Mark {
+        identity,
+        node,
+        course: None,
+    })
+}
+
+// The mark of a line that does.
+fn far_mark(text: &[u8]) -> Option<Mark>
+    ensures { result ≡ far_mark_at text.now }
+{
+    let (identity, rest) = head(b"node-2", text)?;
+    let (from, rest) = reached(rest)?;
+    let (to, rest) = reached(rest)?;
+    let node = node(rest)?;
+    Some(Mark {
+        identity,
+        node,
+        course: Some(Course { from, to }),
+    })
+}
+
+// The mark of the file in a folder.
 fn mark(bytes: &[u8]) -> Option<Mark>
     ensures { result ≡ mark_at bytes.now }
 {
-    let (identity, rest) = head(b"node-1", line(bytes)?)?;
-    let node = node(rest)?;
-    Some(Mark { identity, node })
+    let text = line(bytes)?;
+    match plain_mark(text) {
+        Some(mark) => Some(mark),
+        None => far_mark(text),
+    }
 }
 
 impl Cluster {
@@ -99,7 +173,7 @@ impl Cluster {
 }
 
 impl Mark {
-    /// The node that the bytes of the file in a node's folder name. None: they aren't the text of one.
+    /// The mark that the bytes of the file in a node's folder are. None: they aren't the text of one.
     #[tactic(auto, using(crate::proofs::ClusterReading::mark_takes))]
     pub fn parse(bytes: &[u8]) -> Option<Mark>
         ensures found { IfSome result (λ m. IsMark m × (bytes.now ≡ mark_text m)) }

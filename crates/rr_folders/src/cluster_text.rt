@@ -1,9 +1,9 @@
 //! Printing the file of a cluster, and that of a node's folder.
 
 ghost use Rattle.std.specs.Prelude.{◌≡◌, ◌++◌, ◌∷◌, decimal, OnOk, IfOk};
-ghost use Rattle.rr_folders.specs.ClusterTexts.{cluster_text, mark_text};
+ghost use Rattle.rr_folders.specs.ClusterTexts.{cluster_text, digest_words, reached_words, far_words, mark_text};
 
-use crate::cluster::{Cluster, Identity, Mark};
+use crate::cluster::{Cluster, Course, Digest, Identity, Mark, Reached};
 use rr_text::text_word::{push_byte, push_bytes, push_number_word, push_set};
 use std::alloc::{AllocError, Global};
 
@@ -14,6 +14,34 @@ fn push_head(out: &mut Vec<u8>, word: &[u8], identity: Identity) -> Result<(), A
     push_bytes(out, word)?;
     push_number_word(out, identity.first)?;
     push_number_word(out, identity.second)
+}
+
+// Appends a digest.
+fn push_digest(out: &mut Vec<u8>, digest: Digest) -> Result<(), AllocError>
+    ensures ok { OnOk result (out.new.items ≡ out.old.items ++ 32 ∷ digest_words digest) }
+{
+    push_number_word(out, digest.first)?;
+    push_number_word(out, digest.second)?;
+    push_number_word(out, digest.third)?;
+    push_number_word(out, digest.fourth)
+}
+
+// Appends how far an area came.
+fn push_reached(out: &mut Vec<u8>, reached: Reached) -> Result<(), AllocError>
+    ensures ok { OnOk result (out.new.items ≡ out.old.items ++ 32 ∷ reached_words reached) }
+{
+    push_number_word(out, reached.epoch)?;
+    push_number_word(out, reached.length)?;
+    push_digest(out, reached.digest)
+}
+
+// Appends what a mark begins with that says how far a disk came.
+fn push_far_head(out: &mut Vec<u8>, identity: Identity, course: Course) -> Result<(), AllocError>
+    ensures ok { OnOk result (out.new.items ≡ out.old.items ++ far_words identity course) }
+{
+    push_head(out, b"node-2", identity)?;
+    push_reached(out, course.from)?;
+    push_reached(out, course.to)
 }
 
 impl Cluster {
@@ -42,7 +70,10 @@ impl Mark {
         ensures ok { IfOk result (λ v. v.items ≡ mark_text self.now) }
     {
         let mut out = Vec::new(alloc);
-        push_head(&mut out, b"node-1", self.identity)?;
+        match self.course {
+            None => push_head(&mut out, b"node-1", self.identity)?,
+            Some(course) => push_far_head(&mut out, self.identity, course)?,
+        }
         push_number_word(&mut out, u64::from(self.node.index()))?;
         push_byte(&mut out, b'\n')?;
         Ok(out)

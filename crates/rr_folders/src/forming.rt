@@ -3,20 +3,28 @@
 
 ghost use Rattle.std.specs.Prelude.{◌≡◌, ◌<◌, length, IfOk};
 
-use crate::closed::{Closed, done};
-use crate::cluster::{Cluster, Identity, Mark};
-use crate::folder::{Survey, remove_made};
+use crate::closed::{Closed, done, failed};
+use crate::cluster::{Cluster, Course, Identity, Mark};
+use crate::folder::{NodeDisk, NodeFiles, Survey, open_files, remove_made};
 use crate::front::AreaFront;
 use crate::lock::{Lockable, Locks};
-use crate::seen::Seen;
-use rr_disk::{FileDisk, OpenedFile, make_folder};
+use crate::mark_file::{FolderMark, MarkWriter};
+use crate::marked::MarkedDisk;
+use crate::noted::Noter;
+use crate::plain::make_fresh;
+use crate::reason::Reasons;
+use crate::seen::{Seen, course_of, is_there};
+use crate::tip::Tip;
+use rr_disk::make_folder;
 use rr_journal::Journal;
 use rr_types::{NodeId, NodeSet, Nodes, Refusal};
+use std::alloc::Global;
 use std::fs;
 use std::fs::{OpenFile, OpenOptions};
 use std::io::{Read, Seek, Write};
 use std::os::unix::fs::FileExt;
 use std::rt::Files;
+use std::sync::Arc;
 
 /// Draws the identity of a new cluster from the system's random device.
 pub(crate) fn draw_identity<R: Files + AllocGlobal>(rt: &R) -> Result<Identity, Closed> {
@@ -32,9 +40,13 @@ pub(crate) fn draw_identity<R: Files + AllocGlobal>(rt: &R) -> Result<Identity, 
     })
 }
 
-// Writes a text to a new file, and syncs it. Where that fails there is no such file.
-fn write_fresh<R: Files + AllocGlobal>(rt: &R, fresh: &str, text: &[u8]) -> Result<(), Closed> {
-    let mut file = done(rt, fresh, "making the file", fs::create(rt, fresh))?;
+/// Writes a text to a new file, and syncs it. Where that fails there is no such file.
+pub(crate) fn write_fresh<R: Files + AllocGlobal>(
+    rt: &R,
+    fresh: &str,
+    text: &[u8],
+) -> Result<(), Closed> {
+    let mut file = done(rt, fresh, "making the file", make_fresh(rt, fresh))?;
     let written = match done(rt, fresh, "writing", file.write_all(text)) {
         Ok(()) => done(rt, fresh, "syncing", file.sync_all()),
         Err(closed) => Err(closed),
@@ -54,8 +66,8 @@ fn rename_fresh<R: Files + AllocGlobal>(rt: &R, fresh: &str, path: &str) -> Resu
     renamed
 }
 
-// Puts a file that is synced in place of another one, and makes that last.
-fn put_in_place<R: Files + AllocGlobal>(
+/// Puts a file that is synced in place of another one, and makes that last.
+pub(crate) fn put_in_place<R: Files + AllocGlobal>(
     rt: &R,
     dir: &str,
     fresh: &str,
@@ -88,7 +100,13 @@ fn write_mark<R: Files + AllocGlobal>(
     let folder = format!(in rt.alloc(); "{dir}/{index}")?;
     let path = format!(in rt.alloc(); "{dir}/{index}/node")?;
     let fresh = format!(in rt.alloc(); "{dir}/{index}/node.new")?;
-    let text = Mark { identity, node }.text(rt.alloc())?;
+    let course = None;
+    let text = Mark {
+        identity,
+        node,
+        course,
+    }
+    .text(rt.alloc())?;
     write_fresh(rt, fresh.as_str(), text.as_slice())?;
     put_in_place(rt, folder.as_str(), fresh.as_str(), path.as_str())
 }
@@ -138,10 +156,30 @@ pub fn try_folder<R: Files + AllocGlobal>(rt: &R, folder: &str) -> Result<(), Cl
             options.open(rt, path.as_str()),
         )?;
     }
-    let probe = format!(in rt.alloc(); "{folder}/probe")?;
-    write_fresh(rt, probe.as_str(), &[0u8; 4096])?;
-    let _ = fs::remove_file(rt, probe.as_str());
-    Ok(())
+    try_file(rt, folder)
+}
+
+/// Writes and syncs a file in the folder DIR, which is taken away: so a program that was refused learns which call fails.
+///
+/// # Errors
+/// `Failed`, with the call that fails. `OutOfMemory`.
+pub fn try_dir<R: Files + AllocGlobal>(rt: &R, dir: &str) -> Result<(), Closed> {
+    try_file(rt, dir)
+}
+
+// Writes and syncs a file in a folder, and takes it away. The folder is named where a call fails.
+fn try_file<R: Files + AllocGlobal>(rt: &R, folder: &str) -> Result<(), Closed> {
+    // (the number is drawn, so that no file of anybody's has this name)
+    let drawn = draw_identity(rt)?.first;
+    let probe = format!(in rt.alloc(); "{folder}/probe-{drawn}")?;
+    match write_fresh(rt, probe.as_str(), &[0u8; 4096]) {
+        Ok(()) => {
+            let _ = fs::remove_file(rt, probe.as_str());
+            Ok(())
+        }
+        Err(Closed::Failed { call, error, .. }) => Err(failed(rt, folder, call, error)),
+        Err(closed) => Err(closed),
+    }
 }
 
 // Formats a disk that was opened in a folder, unless it is formatted.
@@ -150,8 +188,8 @@ fn formatted<F: Read + Write + Seek + FileExt + OpenFile + Drop, R: Files<File =
     folder: &str,
     nodes: Nodes,
     node: NodeId,
-    disk: FileDisk<OpenedFile<F>>,
-) -> Result<FileDisk<OpenedFile<F>>, Closed>
+    disk: NodeFiles<F>,
+) -> Result<NodeFiles<F>, Closed>
     requires { node < nodes }
 {
     match Journal::open(rt.alloc(), nodes, node, disk) {
@@ -186,18 +224,34 @@ fn form_folder<
     write_mark(rt, dir, node, identity, seen)
 }
 
+// How far a node's mark says that its disk came, and what is known of that.
+fn course_in<F>(survey: &mut Survey<F>, index: u8) -> (Option<Course>, Option<Tip>) {
+    let course = match survey.seen.get(usize::from(index)) {
+        Some(seen) => course_of(seen.found.mark),
+        None => None,
+    };
+    let known = match survey.known.get_mut(usize::from(index)) {
+        Some(known) => known.take(),
+        None => None,
+    };
+    (course, known)
+}
+
 // Opens the disk of a node. One that hasn't been formatted is.
 fn open_node<
+    'x,
     F: Read + Write + Seek + FileExt + OpenFile + Drop + Lockable,
-    R: Files<File = F> + AllocGlobal,
+    R: Files<File = F> + AllocGlobal + MarkWriter,
 >(
-    rt: &R,
+    rt: &'x R,
     nodes: Nodes,
     dir: &str,
     cluster: &Cluster,
     node: NodeId,
     survey: &mut Survey<F>,
-) -> Result<FileDisk<OpenedFile<F>>, Closed>
+    noter: Arc<Noter, Global>,
+    reasons: &Reasons,
+) -> Result<NodeDisk<'x, F, R>, Closed>
     requires { node < nodes }
 {
     let index = node.index();
@@ -209,32 +263,50 @@ fn open_node<
             form_folder(rt, dir, cluster.identity, node, &seen, &mut survey.locks)?;
         }
     }
-    match FileDisk::open(rt, folder.as_str(), true) {
-        Ok(disk) if is_formatted => Ok(disk),
-        Ok(disk) => formatted(rt, folder.as_str(), nodes, node, disk),
+    let keeper = FolderMark::new(
+        rt.alloc(),
+        rt,
+        folder.as_str(),
+        cluster.identity,
+        node,
+        Some(noter),
+    )?;
+    match open_files(rt, folder.as_str(), true, reasons.of(index)?) {
+        Ok(disk) if is_formatted => {
+            let (course, known) = course_in(survey, index);
+            Ok(MarkedDisk::new(disk, keeper, course, known))
+        }
+        Ok(disk) => {
+            let disk = formatted(rt, folder.as_str(), nodes, node, disk)?;
+            Ok(MarkedDisk::new(disk, keeper, None, None))
+        }
         Err(refusal) => Err(unopened(rt, folder.as_str(), node, refusal)),
     }
 }
 
 /// Opens the disks of a cluster's nodes, ascending. Those that haven't been formatted are.
 pub(crate) fn open_disks<
+    'x,
     F: Read + Write + Seek + FileExt + OpenFile + Drop + Lockable,
-    R: Files<File = F> + AllocGlobal,
+    R: Files<File = F> + AllocGlobal + MarkWriter,
 >(
-    rt: &R,
+    rt: &'x R,
     nodes: Nodes,
     dir: &str,
     cluster: &Cluster,
     survey: &mut Survey<F>,
-) -> Result<Vec<FileDisk<OpenedFile<F>>>, Closed>
+    reasons: &Reasons,
+) -> Result<Vec<NodeDisk<'x, F, R>>, Closed>
     ensures { IfOk result (λ v. length v.items ≡ nodes) }
 {
+    let noter = Arc::new(rt.alloc(), Noter::new(rt, dir, nodes)?)?;
     let mut disks = Vec::new(rt.alloc());
     for index in 0..nodes.count() {
         let Some(node) = NodeId::new(nodes, index) else {
             unreachable!()
         };
-        disks.push(open_node(rt, nodes, dir, cluster, node, survey)?)?;
+        let noter = Arc::try_clone(&noter)?;
+        disks.push(open_node(rt, nodes, dir, cluster, node, survey, noter, reasons)?)?;
     }
     Ok(disks)
 }
@@ -256,13 +328,13 @@ fn mark_nodes<F, R: Files<File = F> + AllocGlobal>(
     Ok(())
 }
 
-// Takes away what was made in a node's folder, and the folder if it was made.
+// Takes away what was made in a node's folder, and the folder if it was made. It tells whether a mark is left that was made.
 fn tidy_node<R: Files + AllocGlobal>(
     rt: &R,
     dir: &str,
     index: usize,
     seen: &Seen,
-) -> Result<(), Closed> {
+) -> Result<bool, Closed> {
     let missing = [
         ("a0", matches!(seen.first, AreaFront::Missing)),
         ("a1", matches!(seen.second, AreaFront::Missing)),
@@ -278,19 +350,23 @@ fn tidy_node<R: Files + AllocGlobal>(
         let path = format!(in rt.alloc(); "{dir}/{index}")?;
         let _ = fs::remove_dir(rt, path.as_str());
     }
-    Ok(())
+    let path = format!(in rt.alloc(); "{dir}/{index}/node")?;
+    Ok(!seen.has_mark_file && is_there(rt, path.as_str())?)
 }
 
-/// Takes away all that was made since the survey.
+/// Takes away all that was made since the survey. The cluster's file stays if a mark does, as no cluster begins over marks.
 pub(crate) fn tidy<F, R: Files<File = F> + AllocGlobal>(
     rt: &R,
     dir: &str,
     survey: &Survey<F>,
 ) -> Result<(), Closed> {
+    let mut is_marked = false;
     for (index, seen) in survey.seen.iter().enumerate() {
-        tidy_node(rt, dir, index, seen)?;
+        if tidy_node(rt, dir, index, seen)? {
+            is_marked = true;
+        }
     }
-    if !survey.has_cluster_file {
+    if !survey.has_cluster_file && !is_marked {
         let path = format!(in rt.alloc(); "{dir}/cluster")?;
         let _ = fs::remove_file(rt, path.as_str());
     }
@@ -299,7 +375,9 @@ pub(crate) fn tidy<F, R: Files<File = F> + AllocGlobal>(
 }
 
 // The cluster, of which all nodes have been formatted.
-fn all_of(cluster: &Cluster) -> Cluster {
+fn all_of(cluster: &Cluster) -> Cluster
+    ensures { result.nodes ≡ cluster.now.nodes }
+{
     let mut all = *cluster;
     for index in 0..all.nodes.count() {
         if let Some(node) = NodeId::at(index) {
@@ -324,7 +402,9 @@ pub(crate) fn conclude<F, R: Files<File = F> + AllocGlobal>(
     dir: &str,
     cluster: &Cluster,
     survey: &Survey<F>,
-) -> Result<Cluster, Closed> {
+) -> Result<Cluster, Closed>
+    ensures { IfOk result (λ all. all.nodes ≡ cluster.now.nodes) }
+{
     let all = all_of(cluster);
     let path = format!(in rt.alloc(); "{dir}/cluster")?;
     let fresh = format!(in rt.alloc(); "{dir}/cluster.new")?;
@@ -349,7 +429,9 @@ pub(crate) fn begin<F, R: Files<File = F> + AllocGlobal>(
     dir: &str,
     nodes: Nodes,
     survey: &Survey<F>,
-) -> Result<Cluster, Closed> {
+) -> Result<Cluster, Closed>
+    ensures { IfOk result (λ cluster. cluster.nodes ≡ nodes) }
+{
     let cluster = Cluster {
         identity: draw_identity(rt)?,
         nodes,
@@ -371,7 +453,9 @@ pub(crate) fn take_on<F, R: Files<File = F> + AllocGlobal>(
     nodes: Nodes,
     named: Option<Identity>,
     survey: &Survey<F>,
-) -> Result<Cluster, Closed> {
+) -> Result<Cluster, Closed>
+    ensures { IfOk result (λ cluster. cluster.nodes ≡ nodes) }
+{
     let identity = match named {
         Some(identity) => identity,
         None => draw_identity(rt)?,

@@ -3,9 +3,9 @@
 ghost use Rattle.std.specs.Prelude.{◌≡◌, ◌+◌, ◌≤◌, ◌<◌, length, option_map, Option, Some, None};
 ghost use Rattle.std.specs.List.{list_all};
 ghost use Rattle.rr_types.specs.Limits.{max_nodes};
-ghost use Rattle.rr_folders.specs.Judging.{mark_fault, owner_fault, loss_fault, disk_fault, fault_of, first_fault, is_blank, is_fresh, first_identity, verdict_by_file, verdict_by_folders, verdict_of, Guards};
+ghost use Rattle.rr_folders.specs.Judging.{mark_fault, owner_fault, loss_fault, course_of, lapse_of, lapse_fault, forgetful_fault, lag_fault, outdated_fault, memory_fault, disk_fault, fault_of, first_fault, is_blank, is_fresh, first_identity, verdict_by_file, verdict_by_folders, verdict_of, Guards};
 
-use crate::cluster::{Cluster, Identity, Mark};
+use crate::cluster::{Cluster, Course, Digest, Identity, Mark, Reached};
 use crate::front::Content;
 use rr_types::{NodeId, NodeSet, Nodes, made_of};
 
@@ -16,6 +16,10 @@ pub struct Found {
     pub content: Content,
     /// Whose it is by the file in it. None: it has no such file, or that says nothing.
     pub mark: Option<Mark>,
+    /// How far its active area came, looked at as far as the mark says of that epoch. None: no area is active.
+    pub active: Option<Reached>,
+    /// What was noted last of the folder's mark, outside the folder. None: nothing.
+    pub noted: Option<Mark>,
 }
 
 /// Why the folder of a node may not be opened.
@@ -35,6 +39,14 @@ pub enum Fault {
     OtherCluster,
     /// The node has marked its folder, and nobody has marked this one.
     Unmarked,
+    /// The active area has another epoch than the node has marked.
+    Older,
+    /// The active area is shorter than the node has marked.
+    Shorter,
+    /// The active area has other bytes than the node has marked.
+    Altered,
+    /// The node's mark isn't as far as it was noted to be once: the folder is an older copy.
+    Outdated,
 }
 
 /// What is to be done with folders.
@@ -110,20 +122,101 @@ fn loss_fault(content: Content) -> Option<Fault>
     }
 }
 
+// How far a folder's mark says that its active area came.
+fn course_of(mark: Option<Mark>) -> Option<Course>
+    ensures { result ≡ course_of mark }
+{
+    mark?.course
+}
+
+// What an area of the marked epoch that isn't as far has against it.
+fn lapse_of(reached: Reached, to: Reached) -> Fault
+    ensures { result ≡ lapse_of reached to }
+{
+    if reached.length < to.length {
+        Fault::Shorter
+    } else {
+        Fault::Altered
+    }
+}
+
+// What an active area that came this far has against it.
+fn lapse_fault(course: Course, reached: Reached) -> Option<Fault>
+    ensures { result ≡ lapse_fault course reached }
+{
+    if reached.is(course.from) || reached.is(course.to) {
+        None
+    } else if reached.epoch == course.to.epoch {
+        Some(lapse_of(reached, course.to))
+    } else if reached.epoch == course.from.epoch {
+        Some(lapse_of(reached, course.from))
+    } else {
+        Some(Fault::Older)
+    }
+}
+
+// That the disk in a folder forgot what the folder's mark says.
+fn forgetful_fault(course: Option<Course>, active: Option<Reached>) -> Option<Fault>
+    ensures { result ≡ forgetful_fault course active }
+{
+    let course = course?;
+    match active {
+        Some(reached) => lapse_fault(course, reached),
+        None => Some(Fault::Older),
+    }
+}
+
+// What a mark has against it of which it was noted once how far it says that the disk came.
+fn lag_fault(noted: Option<Course>, course: Option<Course>) -> Option<Fault>
+    ensures { result ≡ lag_fault noted course }
+{
+    let noted = noted?;
+    match course {
+        Some(course) if !course.to.is_behind(noted.from) => None,
+        _ => Some(Fault::Outdated),
+    }
+}
+
+// That a folder is older than what was noted of it.
+fn outdated_fault(noted: Option<Mark>, mark: Option<Mark>) -> Option<Fault>
+    ensures { result ≡ outdated_fault noted mark }
+{
+    let noted = noted?;
+    let mark = mark?;
+    if noted.identity.is(mark.identity) {
+        lag_fault(noted.course, mark.course)
+    } else {
+        None
+    }
+}
+
+// That a node forgot something.
+fn memory_fault(found: &Found) -> Option<Fault>
+    ensures { result ≡ memory_fault found.now }
+{
+    made_of!(Mark, Course, Reached, Digest, Identity);
+    match forgetful_fault(course_of(found.mark), found.active) {
+        Some(fault) => Some(fault),
+        None => outdated_fault(found.noted, found.mark),
+    }
+}
+
 // What is lost of a node.
 fn disk_fault(formatted: Option<NodeSet>, node: NodeId, found: &Found) -> Option<Fault>
     ensures { result ≡ disk_fault formatted node found.now }
 {
-    let Some(formatted) = formatted else {
-        return loss_fault(found.content);
+    made_of!(Course, Reached, Digest, Identity);
+    let is_unmarked = match formatted {
+        Some(formatted) if !formatted.contains(node) => return None,
+        Some(_) => found.mark.is_none(),
+        None => false,
     };
-    if !formatted.contains(node) {
-        return None;
-    }
-    match (loss_fault(found.content), found.mark) {
-        (Some(fault), _) => Some(fault),
-        (None, None) => Some(Fault::Unmarked),
-        (None, Some(_)) => None,
+    if let Some(fault) = loss_fault(found.content) {
+        Some(fault)
+    } else if is_unmarked {
+        Some(Fault::Unmarked)
+    } else {
+        memory_fault(found)
     }
 }
 
@@ -196,7 +289,7 @@ fn by_file(nodes: Nodes, cluster: &Cluster, found: &[Found]) -> Verdict
     requires { length found.now ≡ nodes }
     ensures { result ≡ verdict_by_file nodes cluster.now found.now }
 {
-    made_of!(Cluster, Identity, Found, Verdict);
+    made_of!(Cluster, Identity, Course, Reached, Digest, Found, Verdict);
     let _count = nodes.count();
     if cluster.nodes != nodes {
         return match NodeId::at(0) {

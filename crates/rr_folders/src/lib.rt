@@ -1,9 +1,11 @@
-//! The folders of a cluster: node P's is `DIR/P`, and `DIR/cluster` says which cluster they are. A node whose disk is lost or blank
-//! has forgotten its promises, and must not be taken for a fresh one.
+//! The folders of a cluster: node P's is `DIR/P`, and `DIR/cluster` says which cluster they are. A node whose disk is lost, blank or
+//! not as far as it was has forgotten promises, and must not be taken for a fresh one.
 //! - Judging reads and writes no file. The file `cluster` says how many nodes there are and which of them have been formatted (`Cluster`).
-//!   The file `node` in a node's folder says whose it is. By these, `judge` says whether folders as they were found may be opened.
+//!   The file `node` in a node's folder says whose it is, and how far its disk came. By these, `judge` says whether folders as they
+//!   were found may be opened.
 //! - `open_folders` locks them, judges what it finds, and writes what is missing where a cluster begins. `survey_folders` and `enter`
-//!   are its two halves. `Locks` holds their locks, and reserves request numbers in a locked folder.
+//!   are its two halves. `Locks` holds their locks, and reserves request numbers in a locked folder. `lock_node` locks a single node's
+//!   folder. `Shares` are the locks of those who only read, which keep off whoever runs nodes.
 //! - `read_disk` reads what a folder holds, and `verify` says whether those of a cluster agree. `verdict_text` prints that, and
 //!   `export` the registry of what they decided. None of them writes.
 //!
@@ -30,30 +32,48 @@ mod cluster_text;
 mod decided;
 mod difference;
 mod exporting;
+mod faults;
 mod fields;
 mod folder;
 mod forming;
 mod front;
+mod judged;
 mod judging;
 mod lock;
+mod mark_file;
+mod marked;
+mod noted;
 mod number_file;
+mod plain;
+mod reading;
+mod reason;
 mod requests;
 mod seen;
 mod telling;
+mod tip;
 mod verdict;
 mod verify_folder;
 
-pub use closed::Closed;
+pub use closed::{Closed, print_closed};
 pub use cluster::Cluster;
 pub use decided::{decided_text, longest_decided};
 pub use exporting::export;
+pub use faults::print_fault;
 pub use fields::Form;
-pub use folder::{Folders, Survey, enter, open_folders, survey_folders};
-pub use forming::try_folder;
+pub use folder::{
+    Folders, NodeDisk, NodeFiles, Survey, enter, judge_folders, open_folders, survey_folders,
+};
+pub use forming::{try_dir, try_folder};
+pub use judged::{Judged, judge_cluster};
 pub use judging::Fault;
 pub use lock::{Lockable, Locks};
+pub use mark_file::{FolderMark, MarkKeeper, MarkWriter};
+pub use marked::MarkedDisk;
 pub use number_file::{NumberFile, reserve};
-pub use requests::{Block, greatest_in, reserve_in};
+pub use plain::{read_only_disk, see_plain};
+pub use reading::{Shares, lock_node, share_cluster, share_node};
+pub use reason::{Reasons, ToldFile};
+pub use requests::{Block, greatest_in, reserve_in, see_in};
 pub use telling::verdict_text;
 pub use verdict::{Verdict, crashed_folders_agree, verify};
 pub use verify_folder::{Reading, read_disk};

@@ -3,7 +3,8 @@
 ghost use Rattle.std.specs.Prelude.{◌≡◌, ◌+◌, ◌≤◌, is_ok, IfOk};
 ghost use Rattle.rr_folders.specs.NumberCalls.{NumberCall, reads, writes, syncs, renames, syncs_folder, found_by};
 
-use crate::requests::{Block, reserve_in};
+use crate::plain::{make_fresh, see_plain};
+use crate::requests::{Block, reserve_in, see_in};
 use rr_types::Refusal;
 use std::fs::OpenFile;
 use std::io::{ErrorKind, Write};
@@ -80,15 +81,15 @@ impl<'x, R: Files + AllocGlobal> NumberFile for FolderNumbers<'x, R> {
     ghost gives = { λ _ _ _. Unit {0} };
 
     fn read(&mut self) -> io::Result<Option<Vec<u8>>> {
-        match fs::read(self.rt, self.path.as_str()) {
-            Ok(bytes) => Ok(Some(bytes)),
+        match see_plain(self.rt, self.path.as_str()) {
+            Ok(()) => Ok(Some(fs::read(self.rt, self.path.as_str())?)),
             Err(error) if error.kind() == ErrorKind::NotFound => Ok(None),
             Err(error) => Err(error),
         }
     }
 
     fn write_fresh(&mut self, text: &[u8]) -> io::Result<()> {
-        let mut file = fs::create(self.rt, self.fresh_path.as_str())?;
+        let mut file = make_fresh(self.rt, self.fresh_path.as_str())?;
         file.write_all(text)?;
         self.fresh = Some(file);
         Ok(())
@@ -108,6 +109,12 @@ impl<'x, R: Files + AllocGlobal> NumberFile for FolderNumbers<'x, R> {
     fn sync_folder(&mut self) -> io::Result<()> {
         fs::open(self.rt, self.dir)?.sync_all()
     }
+}
+
+/// Sees that request numbers can be reserved by the file `requests` of a folder. Nothing is written.
+pub(crate) fn see_numbers<R: Files + AllocGlobal>(rt: &R, dir: &str) -> Result<(), Refusal> {
+    let mut file = FolderNumbers::new(rt, dir)?;
+    see_in(&mut file)
 }
 
 /// Reserves the next block of request numbers, from `least` on, by the file `requests` of a folder that is locked. No earlier block

@@ -1,9 +1,9 @@
 //! Request numbers that are unique over a program's restarts, whatever the clock does. The file `DIR/requests` holds the first
 //! number that is not reserved, in decimal, and a line feed.
 
-ghost use Rattle.std.specs.Prelude.{◌≡◌, ◌+◌, ◌^◌, ◌<◌, ◌≤◌, max, true, false, Some, List, IfOk, IfErr, IfSome, IsOk, IsErr};
+ghost use Rattle.std.specs.Prelude.{◌≡◌, ◌+◌, ◌^◌, ◌<◌, ◌≤◌, ◌⊎◌, max, true, false, Some, List, IfOk, IfErr, IfSome, IsOk, IsErr, OnOk};
 ghost use Rattle.rr_folders.specs.Requests.{stored_number, greater, greatest_with, greatest_at, greatest_in};
-ghost use Rattle.rr_folders.specs.NumberCalls.{NumberCall, bytes_of, free_by, number_text, replaced, IsCutShort, IsAsked, Reserves, ReservesNone};
+ghost use Rattle.rr_folders.specs.NumberCalls.{NumberCall, bytes_of, free_by, number_text, replaced, IsCutShort, IsAsked, Sees, Reserves, ReservesNone};
 
 use crate::number_file::NumberFile;
 use rr_text::text_read::{cut, number};
@@ -35,7 +35,7 @@ impl Model for Block {
 
 impl Block {
     // The block that begins with this number, unless numbers are out.
-    fn from(first: u64) -> Option<Block>
+    pub(crate) fn from(first: u64) -> Option<Block>
         ensures some { IfSome result (λ b. (b.next ≡ first) × (b.end ≡ first + 1048576)) }
         ensures none { result ≡ None → 2 ^ 64 ≤ first + 1048576 }
     {
@@ -43,6 +43,23 @@ impl Block {
             Some(end) => Some(Block { next: first, end }),
             None => None,
         }
+    }
+
+    /// A block without numbers, behind which the next one begins at this number or later.
+    pub fn behind(least: u64) -> Block
+        ensures { result ≡ record { next = least; end = least } }
+    {
+        Block {
+            next: least,
+            end: least,
+        }
+    }
+
+    /// The number that is taken next, if the block has any left. A block behind this one begins there or later.
+    pub fn next(&self) -> u64
+        ensures { result ≡ self.now.next }
+    {
+        self.next
     }
 
     /// The next number, which then is used; none where all are.
@@ -145,7 +162,7 @@ fn number_text(alloc: Global, stored: u64) -> Result<Vec<u8>, Refusal>
 }
 
 // The first number that is not reserved, by what a read found.
-fn free_by(found: &Option<Vec<u8>>) -> Option<u64>
+pub(crate) fn free_by(found: &Option<Vec<u8>>) -> Option<u64>
     ensures { result ≡ free_by (bytes_of found.now) }
 {
     match found {
@@ -163,6 +180,28 @@ fn replace<N: NumberFile>(file: &mut N, text: &[u8]) -> io::Result<()>
     file.sync_fresh()?;
     file.rename_fresh()?;
     file.sync_folder()
+}
+
+/// Sees that a block of request numbers can be had by this file. Nothing is written, and none is reserved.
+///
+/// # Errors
+/// `Malformed`, where the file holds no number. `TooLarge`, where numbers are out. `OutOfMemory`, `Device`.
+pub fn see_in<N: NumberFile>(file: &mut N) -> Result<(), Refusal>
+    ensures ok { OnOk result (Sees N.gives false file.old file.new) }
+    ensures err { IfErr result (λ e. (e ≡ Refusal.OutOfMemory) ⊎ (e ≡ Refusal.Device) ⊎ Sees N.gives true file.old file.new) }
+{
+    let found = match file.read() {
+        Ok(found) => found,
+        Err(error) if error.kind() == ErrorKind::OutOfMemory => return Err(Refusal::OutOfMemory),
+        Err(_) => return Err(Refusal::Device),
+    };
+    match free_by(&found) {
+        None => Err(Refusal::Malformed(0)),
+        Some(first) => match Block::from(first) {
+            Some(_) => Ok(()),
+            None => Err(Refusal::TooLarge),
+        },
+    }
 }
 
 /// Reserves the next block of request numbers, from `least` on, by this file. No earlier block has any of them, since the file says

@@ -5,7 +5,7 @@ ghost use Rattle.std.specs.List.{flat_map};
 ghost use Rattle.rr_types.specs.Refusal.{refusal_text};
 ghost use Rattle.rr_text.specs.Words.{spaced};
 ghost use Rattle.rr_text.specs.ReportTexts.{command_words};
-ghost use Rattle.rr_folders.specs.Texts.{folder_fields, reading_line, reading_lines, clash_fields, clash_line, verdict_line, verdict_text};
+ghost use Rattle.rr_folders.specs.Texts.{command_field, folder_fields, reading_line, reading_lines, clash_fields, clash_line, verdict_line, verdict_text};
 
 use crate::decided::decided_count;
 use crate::fields::{Form, push_close, push_number_field, push_open, push_text_field};
@@ -110,6 +110,21 @@ fn push_readings(
     Ok(())
 }
 
+// A field that is a command.
+#[tactic(auto, unfolding(crate::specs::Texts::command_field))]
+fn push_command_field(
+    out: &mut Vec<u8>,
+    alloc: Global,
+    form: Form,
+    name: &[u8],
+    command: &Command,
+) -> Result<(), AllocError>
+    ensures ok { OnOk result (out.new.items ≡ out.old.items ++ command_field form name.now command.now) }
+{
+    let text = command_text(alloc, command)?;
+    push_text_field(out, form, name, text.as_slice())
+}
+
 // An instance that two folders decide differently, with both commands.
 fn push_difference(
     out: &mut Vec<u8>,
@@ -120,14 +135,12 @@ fn push_difference(
     ensures ok { OnOk result (out.new.items ≡ out.old.items ++ clash_fields form clash.now) }
 {
     made_of!(Command, Op);
-    let one = command_text(alloc, &clash.difference.one)?;
-    let other = command_text(alloc, &clash.difference.other)?;
     let instance = u64::from(clash.difference.instance.number());
     push_number_field(out, form, b"instance", instance)?;
     push_number_field(out, form, b"place", clash.place as u64)?;
-    push_text_field(out, form, b"command", one.as_slice())?;
+    push_command_field(out, alloc, form, b"command", &clash.difference.one)?;
     push_number_field(out, form, b"other_place", clash.other_place as u64)?;
-    push_text_field(out, form, b"other_command", other.as_slice())
+    push_command_field(out, alloc, form, b"other_command", &clash.difference.other)
 }
 
 // The line on it.

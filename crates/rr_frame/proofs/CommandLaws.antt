@@ -1,17 +1,22 @@
 -- A command that is read is the command that was written, and what was written is read again.
-use Rattle.std.proofs.Common.{◌≡◌, ℕ, ◌^◌, ◌<◌, ◌≤◌, Bool, true, false, cond, eqb, leb, ◌&&◌, List, [], ◌++◌, length, Ok, refl, sym, ap, subst, ◌∙◌, append_assoc, arith, inl, inr, ◌⊎◌}
-use Rattle.std.proofs.lemmas.List.{append-nil}
-use Rattle.std.proofs.lemmas.Bool.{and_parts, and_from, leb-true, le-leb, eqb-true, eqb-false}
+use Rattle.std.proofs.Common.{◌≡◌, ℕ, ◌≤◌, Bool, true, false, cond, leb, ◌&&◌, List, ◌++◌, length, Ok, refl, ap, subst, ◌∙◌, append_assoc, arith, inl, inr, ◌⊎◌}
+use Rattle.std.proofs.lemmas.Bool.{and_parts, and_from, leb-true, le-leb}
 use Rattle.rr_types.specs.declared.command.Op.{Op}
-use Rattle.rr_types.specs.declared.command.Op.TheVariants.{Claim, Update, Release, Transfer}
+use Rattle.rr_types.specs.declared.command.OpKind.{OpKind}
+use Rattle.rr_types.specs.declared.command.Shape.{Shape}
+use Rattle.rr_types.specs.declared.command.Shape.TheVariants.{Bare, Valued, Owned}
+use Rattle.rr_types.specs.declared.command.Operand.{Operand}
+use Rattle.rr_types.specs.declared.command.Operand.TheVariants.{Nothing, Value, Owner}
 use Rattle.rr_types.specs.declared.command.Command.{Command}
+use Rattle.rr_types.specs.Commands.{op_kinds, op_byte, op_kind_of, op_shape, op_kind, op_name, op_operand, operand_shape, op_of}
+use Rattle.rr_types.proofs.PartLemmas.{op_again as op_of_parts, op_shaped, kind_of_made, name_of_made, operand_of_made, kind_again, byte_first, byte_again}
 use Rattle.rr_types.specs.Names.{IsValue, is_name_byte, is_value_byte}
 use Rattle.rr_frame.specs.Numbers.{number_bytes}
 use Rattle.rr_frame.specs.declared.version.Version.{Version}
 use Rattle.rr_frame.specs.Versions.{longest_name, operations, IsNameIn}
-use Rattle.rr_frame.specs.Reading.{◌>>=◌, text_at}
-use Rattle.rr_frame.specs.CommandFormat.{text_bytes, op_bytes, command_bytes, IsLawfulOpIn, IsLawfulCommandIn, name_at, value_at, op_with, op_at, command_at}
-use Rattle.rr_frame.proofs.VersionLaws.{names_at_most, operations_at_least, operations_at_most}
+use Rattle.rr_frame.specs.Reading.{Reading, ◌>>=◌, text_at}
+use Rattle.rr_frame.specs.CommandFormat.{text_bytes, operand_bytes, op_bytes, command_bytes, IsLawfulOperand, IsLawfulOpIn, IsLawfulCommandIn, name_at, value_at, operand_at, op_at, command_at}
+use Rattle.rr_frame.proofs.VersionLaws.{names_at_most, operations_at_most}
 use Rattle.rr_frame.proofs.FieldLaws.{IsBytes, bind_ok, ok_is, Takes, Takes-then, plain_takes, plain_again, checked_takes, checked_again, text_takes, text_again}
 
 pub name_takes : (version : Version) (bytes : List ℕ) (t : List ℕ × List ℕ) → IsBytes bytes → name_at version bytes ≡ Ok t → Takes bytes (text_bytes t.0) t.1 × IsNameIn version t.0
@@ -48,121 +53,46 @@ value_again value rest h =
     let passes : leb (length value) 64 ≡ true = le-leb _ _ h.short in
     ap value_at regrouped ∙ checked_again 1 (λ k. leb k 64) (length value) (value ++ rest) (λ k. text_at is_value_byte k.0 k.1) (let s = h.short in omega arith) passes ∙ text_again is_value_byte value rest h.letters
 
--- what stands behind the name
-abbrev pub behind_name : Op → List ℕ
-behind_name (Claim name value) = text_bytes value
-behind_name (Update name value) = text_bytes value
-behind_name (Release name) = []
-behind_name (Transfer name owner) = number_bytes 4 owner
-
-abbrev pub kind_of : Op → ℕ
-kind_of (Claim name value) = 1
-kind_of (Update name value) = 2
-kind_of (Release name) = 3
-kind_of (Transfer name owner) = 4
-
-abbrev pub name_in : Op → List ℕ
-name_in (Claim name value) = name
-name_in (Update name value) = name
-name_in (Release name) = name
-name_in (Transfer name owner) = name
-
--- what an operation behind its name must be
-abbrev pub IsLawfulBehind : Op → Type 0
-IsLawfulBehind (Claim name value) = IsValue value
-IsLawfulBehind (Update name value) = IsValue value
-IsLawfulBehind (Release name) = Unit {0}
-IsLawfulBehind (Transfer name owner) = owner < 2 ^ 32
-
-op_bytes-parts : (op : Op) → op_bytes op ≡ number_bytes 1 (kind_of op) ++ (text_bytes (name_in op) ++ behind_name op)
-unfolding op_bytes
-op_bytes-parts (Claim name value) = refl
-op_bytes-parts (Update name value) = refl
-op_bytes-parts (Release name) = ap (λ (t : List ℕ). number_bytes 1 3 ++ t) (sym (append-nil (text_bytes name)))
-op_bytes-parts (Transfer name owner) = refl
-
 -- a test that chose
 pub chosen : {A : Type 0} (b : Bool) (x y z : A) → cond b x y ≡ z → ((b ≡ true) × (x ≡ z)) ⊎ ((b ≡ false) × (y ≡ z))
 chosen true x y z e = inl (refl, e)
 chosen false x y z e = inr (refl, e)
 
-record Behind (kind : ℕ) (name bytes : List ℕ) (op : Op) (rest : List ℕ) : Type 0 where
-  kinds : kind_of op ≡ kind
-  named : name_in op ≡ name
-  taken : Takes bytes (behind_name op) rest
-  lawful : IsLawfulBehind op
+-- what was read behind a name
+record Behind (shape : Shape) (bytes : List ℕ) (o : Operand) (rest : List ℕ) : Type 0 where
+  taken : Takes bytes (operand_bytes o) rest
+  lawful : IsLawfulOperand o
+  shaped : operand_shape o ≡ shape
 
-with_value : (make : List ℕ → List ℕ → Op) (kind : ℕ) → ((n v : List ℕ) → kind_of (make n v) ≡ kind) → ((n v : List ℕ) → name_in (make n v) ≡ n) → ((n v : List ℕ) → behind_name (make n v) ≡ text_bytes v) → ((n v : List ℕ) → IsValue v → IsLawfulBehind (make n v))
-    → (name bytes : List ℕ) (y : Op × List ℕ) → IsBytes bytes → (value_at bytes >>= λ (v : List ℕ × List ℕ). Ok (make name v.0, v.1)) ≡ Ok y → Behind kind name bytes y.0 y.1
-with_value make kind k n b l name bytes y fits e =
-    let a = bind_ok (value_at bytes) (λ (v : List ℕ × List ℕ). Ok (make name v.0, v.1)) y e in
+operand_takes : (shape : Shape) (bytes : List ℕ) (y : Operand × List ℕ) → IsBytes bytes → operand_at shape bytes ≡ Ok y → Behind shape bytes y.0 y.1
+unfolding operand_at
+operand_takes Bare bytes y fits e =
+    let made : Operand × List ℕ = (Nothing, bytes) in
+    subst (λ (z : Operand × List ℕ). Behind Bare bytes z.0 z.1) (ok_is made y e) (record { taken = record { parts = refl; rest_fits = fits }; lawful = tt; shaped = refl })
+operand_takes Valued bytes y fits e =
+    let a = bind_ok (value_at bytes) (λ (v : List ℕ × List ℕ). Ok (Value v.0, v.1)) y e in
     let t = value_takes bytes a.0 fits a.1 in
-    let made : Op × List ℕ = (make name a.0.0, a.0.1) in
-    subst (λ (z : Op × List ℕ). Behind kind name bytes z.0 z.1) (ok_is made y a.2) (record { kinds = k name a.0.0; named = n name a.0.0; taken = rw (b name a.0.0) t.0; lawful = l name a.0.0 t.1 })
+    let made : Operand × List ℕ = (Value a.0.0, a.0.1) in
+    subst (λ (z : Operand × List ℕ). Behind Valued bytes z.0 z.1) (ok_is made y a.2) (record { taken = t.0; lawful = t.1; shaped = refl })
+operand_takes Owned bytes y fits e =
+    let a = plain_takes 4 bytes (λ (o : ℕ × List ℕ). Ok (Owner o.0, o.1)) y fits e in
+    let made : Operand × List ℕ = (Owner a.0.0, a.0.1) in
+    subst (λ (z : Operand × List ℕ). Behind Owned bytes z.0 z.1) (ok_is made y a.3) (record { taken = a.1; lawful = omega (arith, a.2); shaped = refl })
 
-op_with_takes : (kind : ℕ) (name bytes : List ℕ) (y : Op × List ℕ) → 1 ≤ kind → kind ≤ 4 → IsBytes bytes → op_with kind name bytes ≡ Ok y → Behind kind name bytes y.0 y.1
-unfolding op_with
-op_with_takes kind name bytes y low high fits e = elim (chosen (eqb kind 1) _ _ _ e) [
-  | inl c ↦
-      let k : kind ≡ 1 = eqb-true _ _ c.0 in
-      rw k (with_value Claim 1 (λ n v. refl) (λ n v. refl) (λ n v. refl) (λ n v h. h) name bytes y fits c.1)
-  | inr c ↦ elim (chosen (eqb kind 2) _ _ _ c.1) [
-    | inl d ↦
-        let k : kind ≡ 2 = eqb-true _ _ d.0 in
-        rw k (with_value Update 2 (λ n v. refl) (λ n v. refl) (λ n v. refl) (λ n v h. h) name bytes y fits d.1)
-    | inr d ↦ elim (chosen (eqb kind 3) _ _ _ d.1) [
-      | inl f ↦
-          let k : kind ≡ 3 = eqb-true _ _ f.0 in
-          let made : Op × List ℕ = (Release name, bytes) in
-          rw k (subst (λ (z : Op × List ℕ). Behind 3 name bytes z.0 z.1) (ok_is made y f.1) (record { kinds = refl; named = refl; taken = record { parts = refl; rest_fits = fits }; lawful = tt }))
-      | inr f ↦
-          let ne1 = eqb-false _ _ c.0 in
-          let ne2 = eqb-false _ _ d.0 in
-          let ne3 = eqb-false _ _ f.0 in
-          let k : kind ≡ 4 = omega arith in
-          let a = plain_takes 4 bytes (λ (o : ℕ × List ℕ). Ok (Transfer name o.0, o.1)) y fits f.1 in
-          let made : Op × List ℕ = (Transfer name a.0.0, a.0.1) in
-          rw k (subst (λ (z : Op × List ℕ). Behind 4 name bytes z.0 z.1) (ok_is made y a.3) (record { kinds = refl; named = refl; taken = a.1; lawful = omega (arith, a.2) }))
-    ]
-  ]
-]
+operand_again : (o : Operand) (rest : List ℕ) → IsLawfulOperand o → operand_at (operand_shape o) (operand_bytes o ++ rest) ≡ Ok (o, rest)
+unfolding operand_at
+operand_again Nothing rest h = refl
+operand_again (Value v) rest h = rw (value_again v rest h) refl
+operand_again (Owner p) rest h = plain_again 4 p rest (λ (o : ℕ × List ℕ). Ok (Owner o.0, o.1)) (omega (arith, h))
 
-op_with_again : (op : Op) (rest : List ℕ) → IsLawfulBehind op → op_with (kind_of op) (name_in op) (behind_name op ++ rest) ≡ Ok (op, rest)
-unfolding op_with
-op_with_again (Claim name value) rest h = rw (value_again value rest h) refl
-op_with_again (Update name value) rest h = rw (value_again value rest h) refl
-op_with_again (Release name) rest h = refl
-op_with_again (Transfer name owner) rest h = plain_again 4 owner rest (λ (o : ℕ × List ℕ). Ok (Transfer name o.0, o.1)) (omega (arith, h))
-
-lawful_op : (version : Version) (op : Op) → IsNameIn version (name_in op) → kind_of op ≤ operations version → IsLawfulBehind op → IsLawfulOpIn version op
-lawful_op version (Claim name value) n k b = (n, b)
-lawful_op version (Update name value) n k b = (n, b)
-lawful_op version (Release name) n k b = n
-lawful_op version (Transfer name owner) n k b = (n, b, k)
-
-lawful_name : (version : Version) (op : Op) → IsLawfulOpIn version op → IsNameIn version (name_in op)
-lawful_name version (Claim name value) h = h.0
-lawful_name version (Update name value) h = h.0
-lawful_name version (Release name) h = h
-lawful_name version (Transfer name owner) h = h.0
-
-lawful_behind : (version : Version) (op : Op) → IsLawfulOpIn version op → IsLawfulBehind op
-lawful_behind version (Claim name value) h = h.1
-lawful_behind version (Update name value) h = h.1
-lawful_behind version (Release name) h = tt
-lawful_behind version (Transfer name owner) h = h.1
-
-kind_low : (op : Op) → 1 ≤ kind_of op
-kind_low (Claim name value) = omega arith
-kind_low (Update name value) = omega arith
-kind_low (Release name) = omega arith
-kind_low (Transfer name owner) = omega arith
-
-kind_high : (version : Version) (op : Op) → IsLawfulOpIn version op → kind_of op ≤ operations version
-kind_high version (Claim name value) h = omega (arith, operations_at_least version)
-kind_high version (Update name value) h = omega (arith, operations_at_least version)
-kind_high version (Release name) h = operations_at_least version
-kind_high version (Transfer name owner) h = h.2
+-- an operation that was made of the parts that were read
+op_made : (version : Version) (bytes : List ℕ) (byte : ℕ) (k : OpKind) (n : List ℕ) (o : Operand) (rest : List ℕ) → op_byte k ≡ byte → operand_shape o ≡ op_shape k → Takes bytes (number_bytes 1 byte ++ (text_bytes n ++ operand_bytes o)) rest → IsNameIn version n → IsLawfulOperand o → byte ≤ operations version → Takes bytes (op_bytes (op_of k n o)) rest × IsLawfulOpIn version (op_of k n o)
+unfolding op_bytes
+op_made version bytes byte k n o rest is shaped taken name lawful known =
+    let kind : op_kind (op_of k n o) ≡ k = kind_of_made k n o in
+    let named : op_name (op_of k n o) ≡ n = name_of_made k n o in
+    let operand : op_operand (op_of k n o) ≡ o = operand_of_made k n o shaped in
+    (rw (kind, named, operand, is) taken, record { name = rw named name; operand = rw operand lawful; known = rw (kind, is) known })
 
 pub op_takes : (version : Version) (bytes : List ℕ) (y : Op × List ℕ) → IsBytes bytes → op_at version bytes ≡ Ok y → Takes bytes (op_bytes y.0) y.1 × IsLawfulOpIn version y.0
 unfolding op_at
@@ -171,26 +101,39 @@ op_takes version bytes y fits e =
     let b = bind_ok (name_at version a.0.1) _ y a.4 in
     let n = name_takes version a.0.1 b.0 a.1.rest_fits b.1 in
     let range = and_parts (leb 1 a.0.0) (leb a.0.0 (operations version)) a.3 in
+    let low : 1 ≤ a.0.0 = leb-true _ _ range.0 in
     let high : a.0.0 ≤ operations version = leb-true _ _ range.1 in
-    let most : a.0.0 ≤ 4 = omega (arith, high, operations_at_most version) in
-    let w = op_with_takes a.0.0 b.0.0 b.0.1 y (leb-true _ _ range.0) most n.0.rest_fits b.2 in
-    let tail = Takes-then a.0.1 (text_bytes b.0.0) b.0.1 (behind_name y.0) y.1 n.0 w.taken in
-    let whole = Takes-then bytes (number_bytes 1 a.0.0) a.0.1 (text_bytes b.0.0 ++ behind_name y.0) y.1 a.1 tail in
-    (rw (op_bytes-parts y.0, w.kinds, w.named) whole, lawful_op version y.0 (rw w.named n.1) (rw w.kinds high) w.lawful)
+    let most : a.0.0 ≤ length op_kinds = omega (arith, high, operations_at_most version) in
+    let o = bind_ok (operand_at (op_shape (op_kind_of a.0.0)) b.0.1) _ y b.2 in
+    let w = operand_takes (op_shape (op_kind_of a.0.0)) b.0.1 o.0 n.0.rest_fits o.1 in
+    let tail = Takes-then a.0.1 (text_bytes b.0.0) b.0.1 (operand_bytes o.0.0) o.0.1 n.0 w.taken in
+    let whole = Takes-then bytes (number_bytes 1 a.0.0) a.0.1 (text_bytes b.0.0 ++ operand_bytes o.0.0) o.0.1 a.1 tail in
+    let made : Op × List ℕ = (op_of (op_kind_of a.0.0) b.0.0 o.0.0, o.0.1) in
+    subst (λ (z : Op × List ℕ). Takes bytes (op_bytes z.0) z.1 × IsLawfulOpIn version z.0) (ok_is made y o.2)
+    (op_made version bytes a.0.0 (op_kind_of a.0.0) b.0.0 o.0.0 o.0.1 (byte_again a.0.0 low most) w.shaped whole n.1 w.lawful high)
+
+-- the operation of a kind and a name, once what stands behind the name was read
+abbrev with_operand : OpKind → List ℕ → Operand × List ℕ → Reading Op
+with_operand k name o = Ok (op_of k name o.0, o.1)
+
+-- what stands behind the name of an operation is read again, and makes the operation
+behind_again : (op : Op) (rest : List ℕ) → IsLawfulOperand (op_operand op) → (operand_at (op_shape (op_kind_of (op_byte (op_kind op)))) (operand_bytes (op_operand op) ++ rest) >>= with_operand (op_kind_of (op_byte (op_kind op))) (op_name op)) ≡ Ok (op, rest)
+behind_again op rest h =
+    rw (kind_again (op_kind op), ← op_shaped op, operand_again (op_operand op) rest h) (ap (λ (o : Op). Ok (o, rest)) (op_of_parts op))
 
 pub op_again : (version : Version) (op : Op) (rest : List ℕ) → IsLawfulOpIn version op → op_at version (op_bytes op ++ rest) ≡ Ok (op, rest)
-unfolding op_at
+unfolding op_at op_bytes
 op_again version op rest h =
-    let k = kind_of op in
-    let tail : List ℕ = text_bytes (name_in op) ++ (behind_name op ++ rest) in
-    let regrouped : op_bytes op ++ rest ≡ number_bytes 1 (kind_of op) ++ tail =
-    ap (λ (t : List ℕ). t ++ rest) (op_bytes-parts op) ∙ append_assoc (number_bytes 1 (kind_of op)) (text_bytes (name_in op) ++ behind_name op) rest ∙ ap (λ (t : List ℕ). number_bytes 1 (kind_of op) ++ t) (append_assoc (text_bytes (name_in op)) (behind_name op) rest) in
-    let low = kind_low op in
-    let high = kind_high version op h in
-    let passes : (leb 1 (kind_of op) && leb (kind_of op) (operations version)) ≡ true = and_from _ _ (le-leb _ _ low) (le-leb _ _ high) in
+    let byte : ℕ = op_byte (op_kind op) in
+    let behind : List ℕ = operand_bytes (op_operand op) in
+    let tail : List ℕ = text_bytes (op_name op) ++ (behind ++ rest) in
+    let regrouped : (number_bytes 1 byte ++ (text_bytes (op_name op) ++ behind)) ++ rest ≡ number_bytes 1 byte ++ tail =
+    append_assoc (number_bytes 1 byte) (text_bytes (op_name op) ++ behind) rest ∙ ap (λ (t : List ℕ). number_bytes 1 byte ++ t) (append_assoc (text_bytes (op_name op)) behind rest) in
+    let high = h.known in
+    let passes : (leb 1 byte && leb byte (operations version)) ≡ true = and_from _ _ (le-leb _ _ (byte_first (op_kind op))) (le-leb _ _ high) in
     ap (op_at version) regrouped
-    ∙ checked_again 1 (λ k. leb 1 k && leb k (operations version)) (kind_of op) tail (λ kind. name_at version kind.1 >>= λ name. op_with kind.0 name.0 name.1) (omega (arith, operations_at_most version, high)) passes
-    ∙ rw (name_again version (name_in op) (behind_name op ++ rest) (lawful_name version op h)) (op_with_again op rest (lawful_behind version op h))
+    ∙ checked_again 1 (λ k. leb 1 k && leb k (operations version)) byte tail (λ kind. name_at version kind.1 >>= λ name. operand_at (op_shape (op_kind_of kind.0)) name.1 >>= λ operand. Ok (op_of (op_kind_of kind.0) name.0 operand.0, operand.1)) (omega (arith, operations_at_most version, high)) passes
+    ∙ rw (name_again version (op_name op) (behind ++ rest) h.name) (behind_again op rest h.operand)
 
 pub command_takes : (version : Version) (bytes : List ℕ) (y : Command × List ℕ) → IsBytes bytes → command_at version bytes ≡ Ok y → Takes bytes (command_bytes y.0) y.1 × IsLawfulCommandIn version y.0
 unfolding command_at command_bytes

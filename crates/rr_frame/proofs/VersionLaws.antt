@@ -1,6 +1,7 @@
 -- A version that is read is the one that was written, and is read again. Version 2 allows whatever version 1 does.
-use Rattle.std.proofs.Common.{◌≡◌, ℕ, ◌≤◌, Bool, true, false, cond, eqb, ◌||◌, List, ◌++◌, Ok, refl, sym, subst, arith}
+use Rattle.std.proofs.Common.{◌≡◌, ℕ, ◌≤◌, Bool, true, false, cond, eqb, ◌||◌, List, length, ◌++◌, Ok, refl, sym, subst, arith}
 use Rattle.std.proofs.lemmas.Bool.{eqb-true}
+use Rattle.rr_types.specs.Commands.{op_kinds}
 use Rattle.rr_frame.specs.declared.version.Version.{Version}
 use Rattle.rr_frame.specs.declared.version.Version.TheVariants.{One, Two}
 use Rattle.rr_frame.specs.Numbers.{number_bytes}
@@ -15,11 +16,7 @@ pub instances_at_most : (version : Version) → instances version ≤ 1048576
 instances_at_most One = omega arith
 instances_at_most Two = omega arith
 
-pub operations_at_least : (version : Version) → 3 ≤ operations version
-operations_at_least One = omega arith
-operations_at_least Two = omega arith
-
-pub operations_at_most : (version : Version) → operations version ≤ 4
+pub operations_at_most : (version : Version) → operations version ≤ length op_kinds
 operations_at_most One = omega arith
 operations_at_most Two = omega arith
 

@@ -1,15 +1,16 @@
 //! Commands as bytes, on a disk and in messages.
 
-ghost use Rattle.std.specs.Prelude.{◌≡◌, ◌++◌, OnOk};
+ghost use Rattle.std.specs.Prelude.{◌≡◌, ◌++◌, IfOk, OnOk};
+ghost use Rattle.rr_types.specs.Commands.{operand_shape};
 ghost use Rattle.rr_types.specs.Names.{IsName, IsValue};
 ghost use Rattle.rr_frame.specs.Reading.{Gives};
-ghost use Rattle.rr_frame.specs.CommandFormat.{text_bytes, op_bytes, command_bytes, IsLawfulOp, IsLawfulCommand, name_at, value_at, op_with, op_at, command_at};
+ghost use Rattle.rr_frame.specs.CommandFormat.{text_bytes, operand_bytes, op_bytes, command_bytes, IsLawfulOperand, IsLawfulOp, IsLawfulCommand, name_at, value_at, operand_at, op_at, command_at};
 
 use crate::number::{put_u8, put_u32, put_u64};
 use crate::reader::Reader;
 use crate::stop::Fault;
 use crate::version::Version;
-use rr_types::{Command, MAX_VALUE, Name, Op, RequestNo, Value};
+use rr_types::{Command, MAX_VALUE, Name, Op, OpKind, Operand, RequestNo, Shape, Value};
 use std::alloc::AllocError;
 
 #[tactic(auto, unfolding(crate::specs::CommandFormat::name_at, crate::specs::Reading::text_at))]
@@ -46,23 +47,20 @@ fn read_value(reader: &mut Reader<'_>) -> Result<Value, Fault>
     }
 }
 
-#[tactic(auto, unfolding(crate::specs::CommandFormat::op_with))]
-fn read_op_with(kind: u8, name: Name, reader: &mut Reader<'_>) -> Result<Op, Fault>
-    ensures { Gives result reader.new (op_with kind name reader.old) }
+#[tactic(auto, unfolding(crate::specs::CommandFormat::operand_at))]
+fn read_operand(shape: Shape, reader: &mut Reader<'_>) -> Result<Operand, Fault>
+    ensures read { Gives result reader.new (operand_at shape reader.old) }
+    ensures shaped { IfOk result (λ operand. operand_shape operand ≡ shape) }
 {
-    match kind {
-        1 => {
+    match shape {
+        Shape::Bare => Ok(Operand::Nothing),
+        Shape::Valued => {
             let value = read_value(reader)?;
-            Ok(Op::Claim(name, value))
+            Ok(Operand::Value(value))
         }
-        2 => {
-            let value = read_value(reader)?;
-            Ok(Op::Update(name, value))
-        }
-        3 => Ok(Op::Release(name)),
-        _ => {
+        Shape::Owned => {
             let owner = reader.u32()?;
-            Ok(Op::Transfer(name, owner))
+            Ok(Operand::Owner(owner))
         }
     }
 }
@@ -72,12 +70,14 @@ fn read_op(version: Version, reader: &mut Reader<'_>) -> Result<Op, Fault>
     ensures { Gives result reader.new (op_at version reader.old) }
 {
     let here = reader.fault();
-    let kind = reader.u8()?;
-    if kind == 0 || kind > version.operations() {
+    let byte = reader.u8()?;
+    if byte == 0 || byte > version.operations() {
         return Err(here);
     }
+    let kind = OpKind::of_byte(byte);
     let name = read_name(version, reader)?;
-    read_op_with(kind, name, reader)
+    let operand = read_operand(kind.shape(), reader)?;
+    Ok(Op::of(kind, &name, &operand))
 }
 
 /// Reads a command of a version. A fault is the first field that is cut short or holds no lawful value.
@@ -112,36 +112,25 @@ fn put_value(out: &mut Vec<u8>, value: &Value) -> Result<(), AllocError>
     Ok(())
 }
 
-#[tactic(auto, unfolding(crate::specs::CommandFormat::op_bytes))]
+fn put_operand(out: &mut Vec<u8>, operand: &Operand) -> Result<(), AllocError>
+    ensures operand { IsLawfulOperand operand.now }
+    ensures ok { OnOk result (out.new.items ≡ out.old.items ++ operand_bytes operand.now) }
+{
+    match operand {
+        Operand::Nothing => Ok(()),
+        Operand::Value(value) => put_value(out, value),
+        Operand::Owner(owner) => put_u32(out, *owner),
+    }
+}
+
+#[tactic(auto, using(rr_types::proofs::PartLemmas::byte_last), unfolding(crate::specs::CommandFormat::op_bytes))]
 fn put_op(out: &mut Vec<u8>, op: &Op) -> Result<(), AllocError>
     ensures ok { OnOk result (out.new.items ≡ out.old.items ++ op_bytes op.now) }
     ensures lawful { OnOk result (IsLawfulOp op.now) }
 {
-    match op {
-        Op::Claim(name, value) => {
-            put_u8(out, 1)?;
-            put_name(out, name)?;
-            put_value(out, value)?;
-            Ok(())
-        }
-        Op::Update(name, value) => {
-            put_u8(out, 2)?;
-            put_name(out, name)?;
-            put_value(out, value)?;
-            Ok(())
-        }
-        Op::Release(name) => {
-            put_u8(out, 3)?;
-            put_name(out, name)?;
-            Ok(())
-        }
-        Op::Transfer(name, owner) => {
-            put_u8(out, 4)?;
-            put_name(out, name)?;
-            put_u32(out, *owner)?;
-            Ok(())
-        }
-    }
+    put_u8(out, op.kind().byte())?;
+    put_name(out, op.name())?;
+    put_operand(out, &op.operand())
 }
 
 /// Puts a command behind the other bytes.

@@ -1,6 +1,7 @@
 //! The versions of the bytes.
 
-ghost use Rattle.std.specs.Prelude.{◌≡◌, ◌≤◌};
+ghost use Rattle.std.specs.Prelude.{◌≡◌, ◌≤◌, length};
+ghost use Rattle.rr_types.specs.Commands.{op_kinds};
 ghost use Rattle.rr_frame.specs.Reading.{Gives};
 ghost use Rattle.rr_frame.specs.Versions.{version_number, longest_name, instances, operations, version_at};
 
@@ -53,7 +54,7 @@ impl Version {
     // How many operations there are.
     pub(crate) fn operations(self) -> u8
         ensures value { result ≡ operations self }
-        ensures range { result ≤ 4 }
+        ensures range { result ≤ length op_kinds }
     {
         match self {
             Version::One => 3,

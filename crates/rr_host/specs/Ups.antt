@@ -1,5 +1,5 @@
 -- What a node that is up does by the calls of its host.
-use Rattle.std.specs.Prelude.{◌≡◌, ◌≢◌, ◌⊎◌, ◌+◌, ℕ, Bool, true, false, List, [], length, Option, None, Some, Result, Ok, Err, if◌then◌else◌}
+use Rattle.std.specs.Prelude.{◌≡◌, ◌≢◌, ◌⊎◌, ◌+◌, ℕ, Bool, true, false, List, [], length, nat_le, count_ones, Option, None, Some, Result, Ok, Err, if◌then◌else◌}
 use Rattle.std.specs.Option.{option_map_or}
 use Rattle.rr_types.specs.declared.input.Input.{Input}
 use Rattle.rr_types.specs.declared.input.Input.TheVariants.{Hear, Tick, Advance}
@@ -7,6 +7,8 @@ use Rattle.rr_types.specs.declared.message.Message.{Message}
 use Rattle.rr_types.specs.declared.refusal.Refusal.{Refusal}
 use Rattle.rr_types.specs.declared.refusal.Refusal.TheVariants.{OutOfMemory, RoundsOut}
 use Rattle.rr_types.specs.Groups.{Grouped}
+use Rattle.rr_types.specs.Nodes.{without_member}
+use Rattle.rr_types.specs.Rounds.{majority_of}
 use Rattle.rr_model.specs.NodeState.{NodeState, decided_prefix}
 use Rattle.rr_model.specs.NodeStep.{node_step, refusal_of, group_taken, running_group, marked_running, next_leaving, message_left}
 use Rattle.rr_frame.specs.GroupFormat.{group_bytes}
@@ -15,6 +17,7 @@ use Rattle.rr_journal.specs.Calls.{frame_bytes}
 use Rattle.rr_journal.specs.declared.journal.Journal.{Journal}
 use Rattle.rr_frame.specs.MessageFormat.{message_bytes}
 use Rattle.rr_host.specs.Chases.{Chase, again, chase_again, chase_ticked, is_gaining, heard_of, chase_of, chase_sent}
+use Rattle.rr_host.specs.declared.standstill.Found.{Found}
 use Rattle.rr_host.specs.Standstills.{is_advance_due, standstill_after}
 use Rattle.rr_host.specs.Disks.{DiskState, called, noted}
 use Rattle.rr_host.specs.declared.chase.Hearing.{Hearing}
@@ -87,10 +90,18 @@ abbrev pub Advances : Bool → NodeState → NodeState → Type 0
 Advances false s t = t ≡ s
 Advances true s t = (t ≡ node_step Advance s) ⊎ ((t ≡ s) × (refusal_of Advance s ≡ Some RoundsOut))
 
--- a tick, and an advance behind the tenth in a row that finds no more decided
+-- what a node finds at a tick; it disregards itself among its suspects
+abbrev pub found_in : NodeState → Found
+found_in s = record {
+  decided = decided_in s;
+  facts = s.marked_end;
+  has_majority = nat_le (majority_of s.nodes + count_ones (without_member s.suspects s.node)) s.nodes;
+}
+
+-- a tick, and an advance where one is due
 pub record Beats (u v : Up) : Type 0 where
-  pub advances : Advances (is_advance_due (decided_in (node_step Tick u.core)) u.standstill) (node_step Tick u.core) v.core
-  pub rest : v ≡ record u { core = v.core; standstill = standstill_after (decided_in (node_step Tick u.core)) u.standstill }
+  pub advances : Advances (is_advance_due (found_in (node_step Tick u.core)) u.standstill) (node_step Tick u.core) v.core
+  pub rest : v ≡ record u { core = v.core; standstill = standstill_after (found_in (node_step Tick u.core)) u.standstill }
 
 -- a tick of the host's clock
 abbrev pub TicksOr : Bool → Up → Up → Type 0

@@ -1,16 +1,12 @@
 //! What a node of a host does: it is down, it opens, or it is up.
 
-ghost use Rattle.std.specs.Prelude.{◌≡◌, None, Some, Ok, IfOk, MatchOption};
-ghost use Rattle.rr_journal.specs.OpeningStates.{OpeningState};
-ghost use Rattle.rr_journal.specs.OpeningSteps.{Steps};
-ghost use Rattle.rr_journal.specs.StepsInPlace.{as_progress};
-ghost use Rattle.rr_host.specs.Disks.{DiskState, HostRead, HostWrite, HostSync};
+ghost use Rattle.std.specs.Prelude.{◌≡◌, None, Some, IsSome, IfOk, MatchOption};
 ghost use Rattle.rr_host.specs.Doings.{written_in, IsOf};
 
 use crate::disk::{HostDisk, Written};
 use crate::up::Up;
 use rr_core::Opening;
-use rr_journal::End;
+use rr_journal::Stepped;
 use rr_types::Refusal;
 use std::alloc::Global;
 
@@ -56,12 +52,12 @@ pub fn open_on(alloc: Global, opening: Opening<HostDisk>) -> Result<Doing, Refus
     let mut left = opening;
     for _ in 0..CALLS {
         match left.step_on(alloc) {
-            Ok(None) => {
+            Ok(Stepped::More) => {
                 if left.disk().written().is_some() {
                     return Ok(Doing::Opening(left));
                 }
             }
-            Ok(Some(end)) => return close(alloc, left, end),
+            Ok(Stepped::Ended) => return close(alloc, left),
             Err(refusal) => {
                 drop(left.into_disk());
                 return Err(refusal);
@@ -72,12 +68,12 @@ pub fn open_on(alloc: Global, opening: Opening<HostDisk>) -> Result<Doing, Refus
     Err(Refusal::Failed)
 }
 
-/// An opening ends, whose last step found this end.
-fn close(alloc: Global, opening: Opening<HostDisk>, end: End) -> Result<Doing, Refusal>
-    requires { (old : OpeningState DiskState) × Steps HostRead HostWrite HostSync old (as_progress opening (Ok (Some end))) }
+/// An opening ends, which has found its end.
+fn close(alloc: Global, opening: Opening<HostDisk>) -> Result<Doing, Refusal>
+    requires { IsSome opening.end }
     ensures { IfOk result (λ doing. IsOf opening.nodes opening.node doing) }
 {
-    match opening.close(alloc, end) {
+    match opening.close(alloc) {
         Ok((core, journal)) => Ok(Doing::Up(Up::new(core, journal))),
         Err((refusal, disk)) => {
             drop(disk);

@@ -11,18 +11,19 @@ ghost use Rattle.rr_frame.specs.MessageFormat.{message_bytes};
 ghost use Rattle.rr_host.specs.Disks.{called, noted};
 ghost use Rattle.rr_host.specs.Chases.{heard_of, chase_of, chase_sent};
 ghost use Rattle.rr_host.specs.Jobs.{StepsOn, HasFailed, IsOfSwitch};
-ghost use Rattle.rr_host.specs.Ups.{Refuses, RefusesAny, heard_by, StopsAtOne, StopsIn, heard, again_of, heard_again, is_catching_up, Advances, Beats, StopsBeat, Ticks, StopsTick, Leaves, IsRefused, Marks, Begins, Flushes};
+ghost use Rattle.rr_host.specs.Ups.{Refuses, RefusesAny, heard_by, StopsAtOne, StopsIn, heard, again_of, heard_again, is_catching_up, found_in, Advances, Beats, StopsBeat, Ticks, StopsTick, Leaves, IsRefused, Marks, Begins, Flushes};
 
 use crate::chase::{Chase, Hearing};
 use crate::disk::{HostDisk, Written};
 use crate::flush::{Flush, step_on, switch_on};
-use crate::standstill::Standstill;
+use crate::standstill::{Found, Standstill};
 use bytes::Bytes;
 use rr_core::Core;
 use rr_frame::{Snapshot, encode};
 use rr_journal::{Body, Job, Journal, SwitchJob, Synced};
 use rr_types::{
     Command, Group, Input, Message, NodeId, Nodes, Op, Promise, Refusal, Reply, RequestNo, made_of,
+    majority,
 };
 use std::alloc::Global;
 use std::mem;
@@ -53,6 +54,19 @@ pub struct Up {
     flush: Flush,
     chase: Chase,
     standstill: Standstill,
+}
+
+/// What a node finds at a tick.
+fn found_in(core: &Core) -> Found
+    ensures { result ≡ found_in core.now }
+{
+    let suspects = core.suspects().without(core.node());
+    Found {
+        decided: core.decided_count(),
+        facts: core.facts(),
+        has_majority: u32::from(majority(core.nodes())) + suspects.bits().count_ones()
+            <= u32::from(core.nodes().count()),
+    }
 }
 
 impl Up {
@@ -164,8 +178,8 @@ impl Up {
         }
     }
 
-    /// A tick of the host's clock: the node hears its key again, or what was held back, and ticks unless it is catching up. At the tenth tick
-    /// in a row without a new decision it enters the next round.
+    /// A tick of the host's clock: the node hears its key again, or what was held back, and ticks unless it is catching up. Where it
+    /// gets no further it enters the next round.
     ///
     /// # Errors
     /// Those of the core. A first part of this may have been done then.
@@ -215,7 +229,7 @@ impl Up {
         match self.tell(&Input::Tick) {
             Err(refusal) => Err(refusal),
             Ok(()) => {
-                let is_due = self.standstill.count(self.core.decided_count());
+                let is_due = self.standstill.count(found_in(&self.core));
                 self.advance_if(is_due)
             }
         }

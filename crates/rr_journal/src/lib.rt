@@ -72,6 +72,6 @@ pub use inspection::{AreaReport, inspect, inspect_bytes};
 pub use job::{Body, BodyOut, BodySafe, GateSet, Job};
 pub use journal::{Journal, frame};
 pub use opened::Opened;
-pub use opening::{End, Opening, Progress};
+pub use opening::{Opening, Progress, Stepped};
 pub use switch::{SwitchJob, Switching};
 pub use synced::Synced;

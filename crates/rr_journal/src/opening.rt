@@ -1,6 +1,6 @@
 //! The opening of a journal, one device call a step.
 
-ghost use Rattle.std.specs.Prelude.{◌≡◌, ◌⊎◌, ℕ, ◌+◌, ◌<◌, ◌≤◌, ◌^◌, true, false, List, length, Some, Ok, Err, OnOk, OnErr, IfOk, IfErr};
+ghost use Rattle.std.specs.Prelude.{◌≡◌, ◌⊎◌, ◌↔◌, ℕ, ◌+◌, ◌<◌, ◌≤◌, ◌^◌, true, false, List, length, None, IsSome, Ok, Err, OnOk, OnErr, IfOk, IfErr};
 ghost use Rattle.rr_types.specs.declared.fact.Fact.{Fact};
 ghost use Rattle.rr_types.specs.declared.refusal.Refusal.TheVariants.{OutOfMemory, Device};
 ghost use Rattle.rr_disk.specs.Areas.{Areas, extent_of};
@@ -20,7 +20,7 @@ ghost use Rattle.rr_journal.specs.OpeningTable.{IsReadBy, IsLeftBy, IsResting, R
 ghost use Rattle.rr_journal.specs.OpenDisks.{IsOpenWith, IsOpenAtRest, IsReady, disk_behind};
 ghost use Rattle.rr_journal.specs.Held.{Holds};
 ghost use Rattle.rr_journal.specs.Stages.{calls_from as stage_calls};
-ghost use Rattle.rr_journal.specs.StepsInPlace.{journal_of, opened_of, as_progress, BeginsAgain};
+ghost use Rattle.rr_journal.specs.StepsInPlace.{ended_by, as_progress, BeginsAgain};
 ghost use Rattle.rr_journal.specs.declared.opening.Phase.{Phase};
 ghost use Rattle.rr_journal.specs.OtherAreas.{other_area, IsOtherKnown};
 ghost use Rattle.rr_journal.specs.Rewrites.{IsRewriting, writes_anew, area_anew, area_kept, content_anew};
@@ -75,6 +75,8 @@ pub struct Opening<D: Disk> {
     node: NodeId,
     phase: Phase,
     fronts: Fronts,
+    /// What the last step found, if it was the last one.
+    end: Option<End>,
 }
 
 impl<D: Disk> Model for Opening<D> {
@@ -82,19 +84,28 @@ impl<D: Disk> Model for Opening<D> {
 
     ghost Value = { OpeningState D };
 
-    ghost view = { λ o. record { disk = o.disk; nodes = o.nodes; node = o.node; phase = o.phase; fronts = o.fronts } };
+    ghost view = { λ o. record { disk = o.disk; nodes = o.nodes; node = o.node; phase = o.phase; fronts = o.fronts; end = o.end } };
 
     ghost invariant = { λ o. IsOwn o.nodes o.node o.phase };
 }
 
 /// What the last step of an opening found: where the journal appends, and the promise and the number of its facts.
 #[derive(Debug, Drop)]
-pub struct End {
+struct End {
     area: Area,
     epoch: u64,
     gate: u64,
     promise: Promise,
     next: u64,
+}
+
+/// How an opening stands behind a step in place.
+#[derive(Clone, Copy, Debug)]
+pub enum Stepped {
+    /// More device calls are due.
+    More,
+    /// It has found its end, which lies in it until `close`.
+    Ended,
 }
 
 /// What a step of an opening gives.
@@ -126,6 +137,7 @@ impl<D: Disk> Opening<D> {
                 first: true,
                 second: true,
             },
+            end: None,
         }
     }
 
@@ -146,6 +158,7 @@ impl<D: Disk> Opening<D> {
             node: _,
             phase: _,
             fronts: _,
+            end: _,
         } = self;
         disk
     }
@@ -179,20 +192,20 @@ impl<D: Disk> Opening<D> {
         let mut opening = self;
         match opening.step_on(alloc) {
             Err(refusal) => Err((refusal, opening.into_disk())),
-            Ok(None) => Ok(Progress::More(opening)),
-            Ok(Some(end)) => {
-                let (journal, opened) = opening.close(end);
+            Ok(Stepped::More) => Ok(Progress::More(opening)),
+            Ok(Stepped::Ended) => {
+                let (journal, opened) = opening.close();
                 Ok(Progress::Done(journal, opened))
             }
         }
     }
 
-    /// Makes the next device call in place, where the node is one of its nodes. At the end it gives what `close` takes.
-    /// An opening that was refused, or has found its end, would begin anew over its disk.
+    /// Makes the next device call in place, where the node is one of its nodes. The end that the last call finds stays in the
+    /// opening, for `close`. An opening that was refused, or has found its end, would begin anew over its disk, without an end.
     ///
     /// # Errors
     /// As of `step`.
-    pub fn step_on(&mut self, alloc: Global) -> Result<Option<End>, Refusal>
+    pub fn step_on(&mut self, alloc: Global) -> Result<Stepped, Refusal>
         requires { self.old.node < self.old.nodes }
         ensures exact { Steps D.read_gives D.write_gives D.sync_gives self.old (as_progress self.new result) }
         ensures call { D.calls (disk_after (as_progress self.new result)) ≡ counted (D.calls self.old.disk) }
@@ -214,6 +227,8 @@ impl<D: Disk> Opening<D> {
         ensures snapshot { IfOk (as_progress self.new result) (λ progress. MaySnap progress) }
         ensures whose { (self.new.nodes ≡ self.old.nodes) × (self.new.node ≡ self.old.node) }
         ensures again { BeginsAgain D.areas self.new result }
+        ensures ended { IfOk result (λ stepped. IsSome self.new.end ↔ (stepped ≡ Stepped.Ended)) }
+        ensures endless { OnErr result (self.new.end ≡ None) }
     {
         make_step(
             alloc,
@@ -222,14 +237,14 @@ impl<D: Disk> Opening<D> {
             self.node,
             &mut self.phase,
             &mut self.fronts,
+            &mut self.end,
         )
     }
 
-    /// The journal of an opening whose last step found this end, and the end of the opening.
-    pub fn close(self, end: End) -> (Journal<D>, Opened)
-        requires { (old : OpeningState D) × Steps D.read_gives D.write_gives D.sync_gives old (as_progress self (Ok (Some end))) }
-        ensures journal { result.0 ≡ journal_of self end }
-        ensures opened { result.1 ≡ opened_of self end }
+    /// The journal of an opening that has found its end, and this end.
+    pub fn close(self) -> (Journal<D>, Opened)
+        requires { IsSome self.end }
+        ensures { ended_by self self.end ≡ Progress.Done result.0 result.1 }
     {
         let Opening {
             disk,
@@ -237,14 +252,20 @@ impl<D: Disk> Opening<D> {
             node,
             phase: _,
             fronts,
+            end,
         } = self;
-        let End {
-            area,
-            epoch,
-            gate,
-            promise,
-            next,
-        } = end;
+        let Some(
+            End {
+                area,
+                epoch,
+                gate,
+                promise,
+                next,
+            },
+        ) = end
+        else {
+            unreachable!()
+        };
         let closes_other = fronts.beside(area);
         (
             Journal::new(disk, nodes, node, area, epoch, gate, next, closes_other),
@@ -350,6 +371,7 @@ impl<D: Disk> Opening<FailingDisk<D>> {
             node: _,
             phase,
             fronts: _,
+            end: _,
         } = self;
         disk.fail_next(fill);
         let _refused = call(alloc, &mut disk, &phase);
@@ -365,30 +387,34 @@ fn make_step<D: Disk>(
     node: NodeId,
     phase: &mut Phase,
     fronts: &mut Fronts,
-) -> Result<Option<End>, Refusal>
+    end: &mut Option<End>,
+) -> Result<Stepped, Refusal>
     requires exists { node < nodes }
     requires own { IsOwn nodes node phase.old }
-    ensures exact { Steps D.read_gives D.write_gives D.sync_gives (record { disk = disk.old; nodes = nodes; node = node; phase = phase.old; fronts = fronts.old }) (as_progress (record { disk = disk.new; nodes = nodes; node = node; phase = phase.new; fronts = fronts.new }) result) }
-    ensures call { D.calls (disk_after (as_progress (record { disk = disk.new; nodes = nodes; node = node; phase = phase.new; fronts = fronts.new }) result)) ≡ counted (D.calls disk.old) }
-    ensures faults { D.faults disk.old ≤ D.faults (disk_after (as_progress (record { disk = disk.new; nodes = nodes; node = node; phase = phase.new; fronts = fronts.new }) result)) }
-    ensures cause { IfErr (as_progress (record { disk = disk.new; nodes = nodes; node = node; phase = phase.new; fronts = fronts.new }) result) (λ r. IsRefused D.faults disk.old r) }
-    ensures tells { D.tells disk.old → D.tells (disk_after (as_progress (record { disk = disk.new; nodes = nodes; node = node; phase = phase.new; fronts = fronts.new }) result)) }
-    ensures course { D.tells disk.old → StaysOnCourse D.areas (record { disk = disk.old; nodes = nodes; node = node; phase = phase.old; fronts = fronts.old }) (as_progress (record { disk = disk.new; nodes = nodes; node = node; phase = phase.new; fronts = fronts.new }) result) }
+    ensures exact { Steps D.read_gives D.write_gives D.sync_gives (record { disk = disk.old; nodes = nodes; node = node; phase = phase.old; fronts = fronts.old; end = end.old }) (as_progress (record { disk = disk.new; nodes = nodes; node = node; phase = phase.new; fronts = fronts.new; end = end.new }) result) }
+    ensures call { D.calls (disk_after (as_progress (record { disk = disk.new; nodes = nodes; node = node; phase = phase.new; fronts = fronts.new; end = end.new }) result)) ≡ counted (D.calls disk.old) }
+    ensures faults { D.faults disk.old ≤ D.faults (disk_after (as_progress (record { disk = disk.new; nodes = nodes; node = node; phase = phase.new; fronts = fronts.new; end = end.new }) result)) }
+    ensures cause { IfErr (as_progress (record { disk = disk.new; nodes = nodes; node = node; phase = phase.new; fronts = fronts.new; end = end.new }) result) (λ r. IsRefused D.faults disk.old r) }
+    ensures tells { D.tells disk.old → D.tells (disk_after (as_progress (record { disk = disk.new; nodes = nodes; node = node; phase = phase.new; fronts = fronts.new; end = end.new }) result)) }
+    ensures course { D.tells disk.old → StaysOnCourse D.areas (record { disk = disk.old; nodes = nodes; node = node; phase = phase.old; fronts = fronts.old; end = end.old }) (as_progress (record { disk = disk.new; nodes = nodes; node = node; phase = phase.new; fronts = fronts.new; end = end.new }) result) }
     ensures due { IsDue (phase_of phase.old) }
-    ensures untouched { D.tells disk.old → IsUntouched (phase_of phase.old) (D.areas disk.old) (D.areas (disk_after (as_progress (record { disk = disk.new; nodes = nodes; node = node; phase = phase.new; fronts = fronts.new }) result))) }
-    ensures images { D.tells disk.old → MayStand (D.areas disk.old) → IsReading (phase_of phase.old) → AddsNone (D.areas disk.old) (D.areas (disk_after (as_progress (record { disk = disk.new; nodes = nodes; node = node; phase = phase.new; fronts = fronts.new }) result))) }
-    ensures rests { D.tells disk.old → OpensAny nodes node phase.old (D.areas disk.old) → IfOk (as_progress (record { disk = disk.new; nodes = nodes; node = node; phase = phase.new; fronts = fronts.new }) result) (λ progress. ComesToAny D.areas progress) }
+    ensures untouched { D.tells disk.old → IsUntouched (phase_of phase.old) (D.areas disk.old) (D.areas (disk_after (as_progress (record { disk = disk.new; nodes = nodes; node = node; phase = phase.new; fronts = fronts.new; end = end.new }) result))) }
+    ensures images { D.tells disk.old → MayStand (D.areas disk.old) → IsReading (phase_of phase.old) → AddsNone (D.areas disk.old) (D.areas (disk_after (as_progress (record { disk = disk.new; nodes = nodes; node = node; phase = phase.new; fronts = fronts.new; end = end.new }) result))) }
+    ensures rests { D.tells disk.old → OpensAny nodes node phase.old (D.areas disk.old) → IfOk (as_progress (record { disk = disk.new; nodes = nodes; node = node; phase = phase.new; fronts = fronts.new; end = end.new }) result) (λ progress. ComesToAny D.areas progress) }
     ensures table { D.tells disk.old → (facts : List Fact) → OpensWith nodes node facts phase.old (D.areas disk.old)
-        → IfOk (as_progress (record { disk = disk.new; nodes = nodes; node = node; phase = phase.new; fronts = fronts.new }) result) (λ progress. ComesTo D.areas facts progress) }
+        → IfOk (as_progress (record { disk = disk.new; nodes = nodes; node = node; phase = phase.new; fronts = fronts.new; end = end.new }) result) (λ progress. ComesTo D.areas facts progress) }
     ensures undamaged { D.tells disk.old → (facts : List Fact) → OpensWith nodes node facts phase.old (D.areas disk.old)
-        → IfErr (as_progress (record { disk = disk.new; nodes = nodes; node = node; phase = phase.new; fronts = fronts.new }) result) (λ r. (r.0 ≡ OutOfMemory) ⊎ (r.0 ≡ Device)) }
+        → IfErr (as_progress (record { disk = disk.new; nodes = nodes; node = node; phase = phase.new; fronts = fronts.new; end = end.new }) result) (λ r. (r.0 ≡ OutOfMemory) ⊎ (r.0 ≡ Device)) }
     ensures kept { D.tells disk.old → (facts : List Fact) → OpensWith nodes node facts phase.old (D.areas disk.old)
-        → IsKept (Holds nodes node) facts (D.areas disk.old) (D.areas (disk_after (as_progress (record { disk = disk.new; nodes = nodes; node = node; phase = phase.new; fronts = fronts.new }) result))) }
-    ensures fronts { D.tells disk.old → KnowsFronts (phase_of phase.old) fronts.old (D.areas disk.old) → IfOk (as_progress (record { disk = disk.new; nodes = nodes; node = node; phase = phase.new; fronts = fronts.new }) result) (λ progress. KnowsOther D.areas progress) }
-    ensures snapshot { IfOk (as_progress (record { disk = disk.new; nodes = nodes; node = node; phase = phase.new; fronts = fronts.new }) result) (λ progress. MaySnap progress) }
+        → IsKept (Holds nodes node) facts (D.areas disk.old) (D.areas (disk_after (as_progress (record { disk = disk.new; nodes = nodes; node = node; phase = phase.new; fronts = fronts.new; end = end.new }) result))) }
+    ensures fronts { D.tells disk.old → KnowsFronts (phase_of phase.old) fronts.old (D.areas disk.old) → IfOk (as_progress (record { disk = disk.new; nodes = nodes; node = node; phase = phase.new; fronts = fronts.new; end = end.new }) result) (λ progress. KnowsOther D.areas progress) }
+    ensures snapshot { IfOk (as_progress (record { disk = disk.new; nodes = nodes; node = node; phase = phase.new; fronts = fronts.new; end = end.new }) result) (λ progress. MaySnap progress) }
     ensures own { IsOwn nodes node phase.new }
-    ensures again { BeginsAgain D.areas (record { disk = disk.new; nodes = nodes; node = node; phase = phase.new; fronts = fronts.new }) result }
+    ensures again { BeginsAgain D.areas (record { disk = disk.new; nodes = nodes; node = node; phase = phase.new; fronts = fronts.new; end = end.new }) result }
+    ensures ended { IfOk result (λ stepped. IsSome end.new ↔ (stepped ≡ Stepped.Ended)) }
+    ensures endless { OnErr result (end.new ≡ None) }
 {
+    *end = None;
     let called = call(alloc, disk, phase);
     match called {
         Err(refusal) => {
@@ -401,15 +427,18 @@ fn make_step<D: Disk>(
                 Err(refusal) => Err(refusal),
                 Ok(Next::Phase(next)) => {
                     *phase = next;
-                    Ok(None)
+                    Ok(Stepped::More)
                 }
-                Ok(Next::Open(area, epoch, gate, promise, next)) => Ok(Some(End {
-                    area,
-                    epoch,
-                    gate,
-                    promise,
-                    next,
-                })),
+                Ok(Next::Open(area, epoch, gate, promise, next)) => {
+                    *end = Some(End {
+                        area,
+                        epoch,
+                        gate,
+                        promise,
+                        next,
+                    });
+                    Ok(Stepped::Ended)
+                }
             }
         }
     }

@@ -4,9 +4,9 @@ use Rattle.std.specs.List.{flat_map}
 use Rattle.rr_types.specs.declared.binding.Binding.{Binding}
 use Rattle.rr_types.specs.declared.command.Command.{Command}
 use Rattle.rr_types.specs.declared.command.Op.{Op}
-use Rattle.rr_types.specs.declared.command.Op.TheVariants.{Claim, Update, Release, Transfer}
-use Rattle.rr_types.specs.declared.command.OpKind.TheVariants as kinds
-use Rattle.rr_types.specs.Commands.{op_word}
+use Rattle.rr_types.specs.declared.command.Operand.{Operand}
+use Rattle.rr_types.specs.declared.command.Operand.TheVariants.{Nothing, Value, Owner}
+use Rattle.rr_types.specs.Commands.{op_word, op_kind, op_name, op_operand}
 use Rattle.rr_types.specs.declared.command.Reply.{Reply}
 use Rattle.rr_types.specs.declared.message.Body.{Body}
 use Rattle.rr_types.specs.declared.message.Body.TheVariants as bodies
@@ -21,13 +21,15 @@ use Rattle.rr_text.specs.Reported.{Reported}
 use Rattle.rr_text.specs.Words.{member_digits}
 use Rattle.rr_json.specs.Json.{quoted, label, begun, text_member, words_member, number_member, opened, object_line, listed}
 
--- the members of an operation: its word, the name, then a value or the new owner
+-- the member of what stands beside a name: nothing, a value or the new owner
+abbrev pub operand_member : Operand → List ℕ
+operand_member Nothing = []
+operand_member (Value value) = words_member (codes "value") value
+operand_member (Owner owner) = number_member (codes "owner") owner
+
+-- the members of an operation: its word, the name, then what stands beside it
 abbrev pub op_members : Op → List ℕ
-op_members (Claim name value) = text_member (codes "operation") (op_word kinds.Claim) ++ text_member (codes "name") name ++ words_member (codes "value") value
-op_members (Update name value) = text_member (codes "operation") (op_word kinds.Update) ++ text_member (codes "name") name ++ words_member (codes "value") value
-op_members (Release name) = text_member (codes "operation") (op_word kinds.Release) ++ text_member (codes "name") name
-op_members (Transfer name owner) =
-    text_member (codes "operation") (op_word kinds.Transfer) ++ text_member (codes "name") name ++ number_member (codes "owner") owner
+op_members op = text_member (codes "operation") (op_word (op_kind op)) ++ text_member (codes "name") (op_name op) ++ operand_member (op_operand op)
 
 -- a command: its client, the client's own number, and its operation
 abbrev pub command_object : Command → List ℕ

@@ -2,11 +2,10 @@
 
 ghost use Rattle.std.specs.Prelude.{◌≡◌, ◌∷◌, ◌++◌, [], ◌+◌, ◌<◌, ◌^◌, ℕ, List, length, map, OnOk, codes, decimal};
 ghost use Rattle.std.specs.List.{flat_map};
-ghost use Rattle.rr_text.specs.ReportTexts.{reply_words};
+ghost use Rattle.rr_text.specs.ReportTexts.{owner_words, reply_words};
 ghost use Rattle.rr_types.specs.Messages.{message_word};
-ghost use Rattle.rr_types.specs.Commands.{op_word};
-ghost use Rattle.rr_json.specs.Json.{label, begun, text_member, words_member, number_member, opened, listed};
-ghost use Rattle.rr_json.specs.Objects.{op_members, command_object, command_member, instance_member, round_member, set_member, body_front, reply_front, reply_member, binding_object, names_member, message_members, line_front, line_object, place_object, place_objects, decided_objects, report_objects};
+ghost use Rattle.rr_json.specs.Json.{label, begun, words_member, number_member, opened, listed};
+ghost use Rattle.rr_json.specs.Objects.{operand_member, op_members, command_object, command_member, instance_member, round_member, set_member, body_front, reply_front, reply_member, binding_object, names_member, message_members, line_front, line_object, place_object, place_objects, decided_objects, report_objects};
 ghost use Rattle.rr_text.specs.Words.{member_digits};
 ghost use Rattle.rr_text.specs.declared.report.ReportLine.TheVariants as lines;
 
@@ -17,37 +16,27 @@ use crate::json_text::{
 use rr_text::text_word::{push_byte, push_bytes, push_number, push_set};
 use rr_text::{Report, ReportLine};
 use rr_types::{
-    Binding, Body, Command, Instance, Message, MessageKind, Name, NodeId, NodeSet, Op, OpKind,
-    Refusal, Reply, RequestNo, Round,
+    Binding, Body, Command, Instance, Message, MessageKind, NodeId, NodeSet, Op, Operand, Refusal,
+    Reply, RequestNo, Round,
 };
 use std::alloc::{AllocError, Global};
 
-// The word of an operation, and its name.
-fn push_op_name(out: &mut Vec<u8>, kind: OpKind, name: &Name) -> Result<(), AllocError>
-    ensures ok { OnOk result (out.new.items ≡ out.old.items ++ text_member (codes "operation") (op_word kind) ++ text_member (codes "name") name.now) }
+fn push_operand(out: &mut Vec<u8>, operand: &Operand) -> Result<(), AllocError>
+    ensures ok { OnOk result (out.new.items ≡ out.old.items ++ operand_member operand.now) }
 {
-    push_text_member(out, b"operation", kind.word().as_bytes())?;
-    push_text_member(out, b"name", name.as_bytes())
+    match operand {
+        Operand::Nothing => Ok(()),
+        Operand::Value(value) => push_words_member(out, b"value", value.as_bytes()),
+        Operand::Owner(owner) => push_number_member(out, b"owner", u64::from(*owner)),
+    }
 }
 
 fn push_op(out: &mut Vec<u8>, op: &Op) -> Result<(), AllocError>
     ensures ok { OnOk result (out.new.items ≡ out.old.items ++ op_members op.now) }
 {
-    match op {
-        Op::Claim(name, value) => {
-            push_op_name(out, OpKind::Claim, name)?;
-            push_words_member(out, b"value", value.as_bytes())
-        }
-        Op::Update(name, value) => {
-            push_op_name(out, OpKind::Update, name)?;
-            push_words_member(out, b"value", value.as_bytes())
-        }
-        Op::Release(name) => push_op_name(out, OpKind::Release, name),
-        Op::Transfer(name, owner) => {
-            push_op_name(out, OpKind::Transfer, name)?;
-            push_number_member(out, b"owner", u64::from(*owner))
-        }
-    }
+    push_text_member(out, b"operation", op.kind().word().as_bytes())?;
+    push_text_member(out, b"name", op.name().as_bytes())?;
+    push_operand(out, &op.operand())
 }
 
 fn push_command_object(out: &mut Vec<u8>, command: &Command) -> Result<(), AllocError>
@@ -203,23 +192,22 @@ fn push_send(
     push_message(alloc, out, message)
 }
 
+// The kind of an object, and the owner that is named in it.
 #[tactic(auto, unfolding(crate::specs::Json::number_member))]
+fn push_owned_open(out: &mut Vec<u8>, kind: &[u8], owner: Option<u32>) -> Result<(), AllocError>
+    ensures ok { OnOk result (out.new.items ≡ out.old.items ++ reply_front (kind.now ∷ owner_words owner)) }
+{
+    push_open(out, kind)?;
+    match owner {
+        None => Ok(()),
+        Some(owner) => push_number_member(out, b"owner", u64::from(owner)),
+    }
+}
+
 fn push_reply_front(out: &mut Vec<u8>, reply: Reply) -> Result<(), AllocError>
     ensures ok { OnOk result (out.new.items ≡ out.old.items ++ reply_front (reply_words reply)) }
 {
-    match reply {
-        Reply::Claimed => push_open(out, b"claimed"),
-        Reply::Updated => push_open(out, b"updated"),
-        Reply::Released => push_open(out, b"released"),
-        Reply::Transferred => push_open(out, b"transferred"),
-        Reply::Taken(owner) => {
-            push_open(out, b"taken")?;
-            push_number_member(out, b"owner", u64::from(owner))
-        }
-        Reply::Unknown => push_open(out, b"unknown"),
-        Reply::NotOwner => push_open(out, b"notowner"),
-        Reply::Full => push_open(out, b"full"),
-    }
+    push_owned_open(out, reply.kind().word().as_bytes(), reply.owner())
 }
 
 fn push_reply_member(out: &mut Vec<u8>, reply: Reply) -> Result<(), AllocError>

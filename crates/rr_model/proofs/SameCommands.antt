@@ -1,13 +1,16 @@
 -- The tests for equal requests, operations and commands pass exactly for equal ones.
-use Rattle.std.proofs.Common.{◌≡◌, ℕ, true, ◌==◌, List, refl, ap, eqb-true, eq-eqb, bytes_eq}
+use Rattle.std.proofs.Common.{◌≡◌, ℕ, true, ◌==◌, ◌&&◌, List, refl, ap, sym, ◌∙◌, eqb-true, eq-eqb, bytes_eq}
 use Rattle.std.proofs.lemmas.Bool.{false≢true, and_parts, and_from}
 use Rattle.std.proofs.lemmas.Slice.Eq.{bytes_eq-Decides}
 use Rattle.rr_types.specs.declared.command.RequestNo.{RequestNo}
 use Rattle.rr_types.specs.declared.command.Op.{Op}
-use Rattle.rr_types.specs.declared.command.Op.TheVariants.{Claim, Update, Release, Transfer}
+use Rattle.rr_types.specs.declared.command.OpKind.{OpKind}
+use Rattle.rr_types.specs.declared.command.Operand.{Operand}
+use Rattle.rr_types.specs.declared.command.Operand.TheVariants.{Nothing, Value, Owner}
 use Rattle.rr_types.specs.declared.command.Command.{Command}
 use Rattle.rr_types.specs.Registry.{is_same_request}
-use Rattle.rr_types.specs.Commands.{is_same_op, is_same_command}
+use Rattle.rr_types.specs.Commands.{op_byte, op_kind_of, op_kind, op_name, op_operand, op_of, is_same_operand, is_same_op, is_same_command}
+use Rattle.rr_types.proofs.PartLemmas.{op_again, kind_again}
 
 same_text : (m n : List ℕ) → bytes_eq m n ≡ true → m ≡ n
 same_text m n t = (bytes_eq-Decides m n).0 t
@@ -26,35 +29,35 @@ same_request p q t =
 pub request_same : (p : RequestNo) → is_same_request p p ≡ true
 request_same p = and_from (p.client == p.client) (p.seq == p.seq) (eq-eqb p.client p.client refl) (eq-eqb p.seq p.seq refl)
 
+same_kind : (k l : OpKind) → op_byte k ≡ op_byte l → k ≡ l
+same_kind k l e = sym (kind_again k) ∙ ap op_kind_of e ∙ kind_again l
+
+same_operand : (a b : Operand) → is_same_operand a b ≡ true → a ≡ b
+same_operand Nothing Nothing t = refl
+same_operand (Value v) (Value w) t = ap Value (same_text v w t)
+same_operand (Owner o) (Owner p) t = ap Owner (eqb-true o p t)
+same_operand a b t = absurd (false≢true t)
+
+operand_same : (a : Operand) → is_same_operand a a ≡ true
+operand_same Nothing = refl
+operand_same (Value v) = text_same v
+operand_same (Owner o) = eq-eqb o o refl
+
+-- two operations whose parts are the same are equal
 pub same_op : (a b : Op) → is_same_op a b ≡ true → a ≡ b
-same_op (Claim m v) (Claim n w) t =
-    let h : (bytes_eq m n ≡ true) × (bytes_eq v w ≡ true) = and_parts (bytes_eq m n) (bytes_eq v w) t in
-    let x : m ≡ n = same_text m n h.0 in let y : v ≡ w = same_text v w h.1 in cc
-same_op (Claim m v) (Update n w) t = absurd (false≢true t)
-same_op (Claim m v) (Release n) t = absurd (false≢true t)
-same_op (Claim m v) (Transfer n w) t = absurd (false≢true t)
-same_op (Update m v) (Claim n w) t = absurd (false≢true t)
-same_op (Update m v) (Update n w) t =
-    let h : (bytes_eq m n ≡ true) × (bytes_eq v w ≡ true) = and_parts (bytes_eq m n) (bytes_eq v w) t in
-    let x : m ≡ n = same_text m n h.0 in let y : v ≡ w = same_text v w h.1 in cc
-same_op (Update m v) (Release n) t = absurd (false≢true t)
-same_op (Update m v) (Transfer n w) t = absurd (false≢true t)
-same_op (Release m) (Claim n w) t = absurd (false≢true t)
-same_op (Release m) (Update n w) t = absurd (false≢true t)
-same_op (Release m) (Release n) t = ap Release (same_text m n t)
-same_op (Release m) (Transfer n w) t = absurd (false≢true t)
-same_op (Transfer m o) (Claim n w) t = absurd (false≢true t)
-same_op (Transfer m o) (Update n w) t = absurd (false≢true t)
-same_op (Transfer m o) (Release n) t = absurd (false≢true t)
-same_op (Transfer m o) (Transfer n w) t =
-    let h : (bytes_eq m n ≡ true) × ((o == w) ≡ true) = and_parts (bytes_eq m n) (o == w) t in
-    let x : m ≡ n = same_text m n h.0 in let y : o ≡ w = eqb-true o w h.1 in cc
+same_op a b t =
+    let h : ((op_byte (op_kind a) == op_byte (op_kind b)) ≡ true) × ((bytes_eq (op_name a) (op_name b) && is_same_operand (op_operand a) (op_operand b)) ≡ true) = and_parts (op_byte (op_kind a) == op_byte (op_kind b)) (bytes_eq (op_name a) (op_name b) && is_same_operand (op_operand a) (op_operand b)) t in
+    let g : (bytes_eq (op_name a) (op_name b) ≡ true) × (is_same_operand (op_operand a) (op_operand b) ≡ true) = and_parts (bytes_eq (op_name a) (op_name b)) (is_same_operand (op_operand a) (op_operand b)) h.1 in
+    let kind : op_kind a ≡ op_kind b = same_kind (op_kind a) (op_kind b) (eqb-true (op_byte (op_kind a)) (op_byte (op_kind b)) h.0) in
+    let name : op_name a ≡ op_name b = same_text (op_name a) (op_name b) g.0 in
+    let operand : op_operand a ≡ op_operand b = same_operand (op_operand a) (op_operand b) g.1 in
+    let made : op_of (op_kind a) (op_name a) (op_operand a) ≡ op_of (op_kind b) (op_name b) (op_operand b) = rw (kind, name, operand) refl in
+    sym (op_again a) ∙ made ∙ op_again b
 
 pub op_same : (a : Op) → is_same_op a a ≡ true
-op_same (Claim m v) = and_from (bytes_eq m m) (bytes_eq v v) (text_same m) (text_same v)
-op_same (Update m v) = and_from (bytes_eq m m) (bytes_eq v v) (text_same m) (text_same v)
-op_same (Release m) = text_same m
-op_same (Transfer m o) = and_from (bytes_eq m m) (o == o) (text_same m) (eq-eqb o o refl)
+op_same a =
+    and_from (op_byte (op_kind a) == op_byte (op_kind a)) (bytes_eq (op_name a) (op_name a) && is_same_operand (op_operand a) (op_operand a)) (eq-eqb (op_byte (op_kind a)) (op_byte (op_kind a)) refl)
+    (and_from (bytes_eq (op_name a) (op_name a)) (is_same_operand (op_operand a) (op_operand a)) (text_same (op_name a)) (operand_same (op_operand a)))
 
 -- two commands that are the same are equal
 pub same_command : (c d : Command) → is_same_command c d ≡ true → c ≡ d

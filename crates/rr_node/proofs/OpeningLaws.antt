@@ -1,6 +1,7 @@
 -- Each device call of an opening does what the definitions say.
-use Rattle.std.proofs.Common.{◌≡◌, ◌≢◌, ◌⊎◌, inl, inr, ℕ, ◌+◌, arith, Bool, true, false, if◌then◌else◌, List, [], ◌∷◌, None, Some, Result, Ok, Err, Vec, refl, sym, ap, subst, ◌∙◌}
+use Rattle.std.proofs.Common.{◌≡◌, ◌≢◌, ◌⊎◌, inl, inr, ℕ, ◌+◌, arith, Bool, true, false, if◌then◌else◌, List, [], ◌∷◌, Option, None, Some, Result, Ok, Err, IfOk, Vec, refl, sym, ap, subst, ◌∙◌}
 use Rattle.std.specs.Global.{Global}
+use Rattle.std.specs.Prelude.{IsSome}
 use Rattle.std.proofs.lemmas.Bool.{false≢true, lt-ltb}
 use Rattle.rr_types.specs.declared.refusal.Refusal.{Refusal}
 use Rattle.rr_types.specs.declared.refusal.Refusal.TheVariants as because
@@ -19,9 +20,11 @@ use Rattle.rr_journal.specs.declared.opening.Phase.TheVariants as step
 use Rattle.rr_journal.specs.declared.opened.Opened.{Opened}
 use Rattle.rr_journal.specs.declared.opening.End.{End}
 use Rattle.rr_journal.specs.Fronts.{KnowsOther}
-use Rattle.rr_journal.specs.StepsInPlace.{journal_of, opened_of}
+use Rattle.rr_journal.specs.StepsInPlace.{journal_of, opened_of, ended_by, as_progress}
 use Rattle.rr_journal.specs.declared.opening.Progress as of_journal
 use Rattle.rr_journal.specs.declared.opening.Progress.TheVariants as of_journal_is
+use Rattle.rr_journal.specs.declared.opening.Stepped as code_2
+use Rattle.rr_journal.specs.declared.opening.Stepped.TheVariants as stepped
 use Rattle.rr_journal.specs.declared.stage.Stage.{Stage}
 use Rattle.rr_journal.specs.declared.stage.Stage.TheVariants as due
 use Rattle.rr_journal.specs.Calls.{Call, Read, Write, Sync, after_call, after_failing, after_starved}
@@ -30,7 +33,7 @@ use Rattle.rr_journal.specs.Openings.{Phase, Settling, ReadingFirst, ReadingSeco
 use Rattle.rr_journal.specs.Migration.{migrated, may_migrate}
 use Rattle.rr_journal.specs.Phases.{phase_of, TakesMemory}
 use Rattle.rr_journal.specs.OpeningSteps.{Steps, MaySnap}
-use Rattle.rr_journal.specs.OpeningTable.{OpensAny}
+use Rattle.rr_journal.specs.OpeningTable.{OpensAny, ComesToAny, disk_after}
 use Rattle.rr_journal.specs.Stages.{calls_from}
 use Rattle.rr_journal.specs.OtherAreas.{other_area, IsOtherKnown}
 use Rattle.rr_journal.specs.Rewrites.{area_anew}
@@ -98,9 +101,9 @@ abbrev seat_in : ℕ → ℕ → Phase → Areas → ℕ → Seat
 seat_in n p phase areas calls = record { nodes = n; node = p; doing = seats.Opening phase; areas = areas; calls = calls }
 
 -- the seat after a device call that succeeded
-stepped : (n p : ℕ) (phase : Phase) (old new : MemoryState) (from to : ℕ) (v : Vec ℕ Global) (after : After) → Done MemoryRead MemoryWrite MemorySync (due_call phase) old v new → to ≡ counted from → after_opening_call n p v.items phase ≡ after
+call_stepped : (n p : ℕ) (phase : Phase) (old new : MemoryState) (from to : ℕ) (v : Vec ℕ Global) (after : After) → Done MemoryRead MemoryWrite MemorySync (due_call phase) old v new → to ≡ counted from → after_opening_call n p v.items phase ≡ after
     → opens_on (seat_in n p phase new.areas to) after ≡ seat_step at.Device (seat_in n p phase old.areas from)
-stepped n p phase old new from to v after h count is =
+call_stepped n p phase old new from to v after h count is =
     ap (opens_on (seat_in n p phase new.areas to)) (sym is ∙ done_after n p phase old new v h)
     ∙ ap (λ (calls : ℕ). opens_on (seat_in n p phase new.areas calls) (after_opening_call n p (read_by (due_call phase) old.areas) phase)) count
     ∙ ap (λ (areas : Areas). opens_on (seat_in n p phase areas (counted from)) (after_opening_call n p (read_by (due_call phase) old.areas) phase)) (done_areas (due_call phase) old new v h)
@@ -119,7 +122,7 @@ opens_more n p o next recovered stands count h = by (not_refused o (progress.Mor
         let done = made_below (due_call (phase_of o.phase)) o.disk next.disk v h.2 made in
         let goes_here : after_opening_call n p v.items (phase_of o.phase) ≡ Goes (phase_of next.phase) =
         ap (λ (k : ℕ). after_opening_call k p v.items (phase_of o.phase)) (sym h.0) ∙ ap (λ (k : ℕ). after_opening_call o.nodes k v.items (phase_of o.phase)) (sym h.1) ∙ goes in
-        (inl (stepped n p (phase_of o.phase) o.disk.below next.disk.below o.disk.calls next.disk.calls v (Goes (phase_of next.phase)) done.0 count goes_here), (nodes ∙ h.0, node ∙ h.1, done.1, subst (λ (k : ℕ). OpensAny k p next.phase (areas_in next.disk)) (nodes ∙ h.0) (subst (λ (k : ℕ). OpensAny next.nodes k next.phase (areas_in next.disk)) (node ∙ h.1) stands)))
+        (inl (call_stepped n p (phase_of o.phase) o.disk.below next.disk.below o.disk.calls next.disk.calls v (Goes (phase_of next.phase)) done.0 count goes_here), (nodes ∙ h.0, node ∙ h.1, done.1, subst (λ (k : ℕ). OpensAny k p next.phase (areas_in next.disk)) (nodes ∙ h.0) (subst (λ (k : ℕ). OpensAny next.nodes k next.phase (areas_in next.disk)) (node ∙ h.1) stands)))
 
 -- only a read or a sync ends an opening
 abbrev StopsBy : Phase → Type 0
@@ -192,7 +195,7 @@ opens_done n p o core j answer new recovered starts stands fronts snaps count se
         here = ap (λ (k : ℕ). after_opening_call k p v.items (phase_of o.phase)) (sym h.0) ∙ ap (λ (k : ℕ). after_opening_call o.nodes k v.items (phase_of o.phase)) (sym h.1) ∙ opens
 
         own : opens_on (seat_in n p (phase_of o.phase) j.disk.below.areas j.disk.calls) (Opens j.area content) ≡ seat_step at.Device (seat_of n p (does.Opening o))
-        own = stepped n p (phase_of o.phase) o.disk.below j.disk.below o.disk.calls j.disk.calls v (Opens j.area content) done.0 count here
+        own = call_stepped n p (phase_of o.phase) o.disk.below j.disk.below o.disk.calls j.disk.calls v (Opens j.area content) done.0 count here
 
         given : Answer
         given = (answer, seat_of n p new)
@@ -278,7 +281,7 @@ stopped n p o e new nodes node calm count (inr (v, made, inl memory)) =
 stopped n p o e new nodes node calm count (inr (v, made, inr stops)) =
     let done = made_below (due_call (phase_of o.phase)) o.disk new v calm made in
     let here : after_opening_call n p v.items (phase_of o.phase) ≡ Stops e = ap (λ (k : ℕ). after_opening_call k p v.items (phase_of o.phase)) (sym nodes) ∙ ap (λ (k : ℕ). after_opening_call o.nodes k v.items (phase_of o.phase)) (sym node) ∙ stops in
-    (((λ device. absurd (stops_by n p v.items o.phase e here device)), (λ other. inl (stepped n p (phase_of o.phase) o.disk.below new.below o.disk.calls new.calls v (Stops e) done.0 count here))), done.1)
+    (((λ device. absurd (stops_by n p v.items o.phase e here device)), (λ other. inl (call_stepped n p (phase_of o.phase) o.disk.below new.below o.disk.calls new.calls v (Stops e) done.0 count here))), done.1)
 
 -- what is wanting at the end of an opening is memory
 wanting_memory : (e : Refusal) (new : NodeDisk) (j : Journal NodeDisk) → Path (Result (progress_of.Progress NodeDisk) (Refusal × NodeDisk)) (Err (e, new)) (Err (because.OutOfMemory, j.disk)) → (e ≡ because.OutOfMemory) × (new ≡ j.disk)
@@ -305,6 +308,31 @@ opens_stopped n p o e new (inr (j, ending, steps, is)) count other h =
 -- a node that opens has one opening
 pub one_opening : (o other : OpeningState NodeDisk) → does.Opening o ≡ does.Opening other → o ≡ other
 one_opening o other same = cc
+
+-- an opening that has an end has this one
+pub an_end : (found : Option End) → IsSome found → (end : End) × (found ≡ Some end)
+an_end None some = absurd (false≢true some)
+an_end (Some end) some = (end, refl)
+
+pub is_there : (found : Option End) (end : End) → found ≡ Some end → IsSome found
+is_there None end is = absurd cc
+is_there (Some other) end is = refl
+
+-- the last step of an opening left its end in it
+pub ended_there : (old o : OpeningState NodeDisk) (end : End) (told : code_2.Stepped) → told ≡ stepped.Ended → o.end ≡ Some end → Steps (FailingRead MemoryRead) (FailingWrite MemoryWrite) (FailingSync MemorySync) old (as_progress {D = NodeDisk} o (Ok told))
+    → IfOk (as_progress {D = NodeDisk} o (Ok told)) (λ (y : of_journal.Progress NodeDisk). ComesToAny {D = NodeDisk} areas_in y)
+    → IfOk (as_progress {D = NodeDisk} o (Ok told)) (λ (y : of_journal.Progress NodeDisk). KnowsOther {D = NodeDisk} areas_in y)
+    → IfOk (as_progress {D = NodeDisk} o (Ok told)) (λ (y : of_journal.Progress NodeDisk). MaySnap {D = NodeDisk} y)
+    → (disk_after {D = NodeDisk} (as_progress {D = NodeDisk} o (Ok told))).calls ≡ counted old.disk.calls → Ended old o end
+ended_there old o end told is there exact comes knows snaps calls =
+    let by : as_progress {D = NodeDisk} o (Ok told) ≡ Ok (closed o end) = ap (λ (x : code_2.Stepped). as_progress {D = NodeDisk} o (Ok x)) is ∙ ap (λ (x : Option End). Ok (ended_by {D = NodeDisk} o x)) there in
+    record {
+      steps = subst (λ (x : Result (of_journal.Progress NodeDisk) (Refusal × NodeDisk)). Steps (FailingRead MemoryRead) (FailingWrite MemoryWrite) (FailingSync MemorySync) old x) by exact;
+      comes = subst (λ (x : Result (of_journal.Progress NodeDisk) (Refusal × NodeDisk)). IfOk x (λ (y : of_journal.Progress NodeDisk). ComesToAny {D = NodeDisk} areas_in y)) by comes;
+      knows = subst (λ (x : Result (of_journal.Progress NodeDisk) (Refusal × NodeDisk)). IfOk x (λ (y : of_journal.Progress NodeDisk). KnowsOther {D = NodeDisk} areas_in y)) by knows;
+      snaps = subst (λ (x : Result (of_journal.Progress NodeDisk) (Refusal × NodeDisk)). IfOk x (λ (y : of_journal.Progress NodeDisk). MaySnap {D = NodeDisk} y)) by snaps;
+      calls = subst (λ (x : Result (of_journal.Progress NodeDisk) (Refusal × NodeDisk)). (disk_after {D = NodeDisk} x).calls ≡ counted old.disk.calls) by calls;
+    }
 
 -- what the closing of an opening gives: the node starts to serve
 pub closes_served : (n p : ℕ) (old o : OpeningState NodeDisk) (end : End) (core : NodeState) (slots : Journal NodeDisk) (answer : Result Outcome Refusal) (new : doing.Doing) → Ended old o end

@@ -6,7 +6,9 @@ use Rattle.std.proofs.lemmas.Bool.{and_parts, or_cases, leb-true, eqb-true}
 use Rattle.std.proofs.lemmas.List.Concat.{flat_map-cons}
 use Rattle.std.proofs.lemmas.List.Elements.{All-nil, All-cons, All-append, All-from_get_or}
 use Rattle.rr_types.specs.declared.command.Op.{Op}
-use Rattle.rr_types.specs.declared.command.Op.TheVariants.{Claim, Update, Release, Transfer}
+use Rattle.rr_types.specs.declared.command.Operand.{Operand}
+use Rattle.rr_types.specs.declared.command.Operand.TheVariants.{Nothing, Value, Owner}
+use Rattle.rr_types.specs.Commands.{op_byte, op_kind, op_name, op_operand}
 use Rattle.rr_types.specs.declared.command.Command.{Command}
 use Rattle.rr_types.specs.declared.fact.Fact.{Fact}
 use Rattle.rr_types.specs.declared.fact.Fact.TheVariants.{Enter, Propose, Adopt, Decide}
@@ -18,7 +20,7 @@ use Rattle.rr_types.specs.declared.promise.Standing.TheVariants.{Decided, Open}
 use Rattle.rr_types.specs.Rounds.{Estimated, coordinator_of}
 use Rattle.rr_frame.specs.declared.version.Version.TheVariants.{Two}
 use Rattle.rr_frame.specs.Numbers.{number_bytes}
-use Rattle.rr_frame.specs.CommandFormat.{text_bytes, op_bytes, command_bytes, IsLawfulOp, IsLawfulCommand}
+use Rattle.rr_frame.specs.CommandFormat.{text_bytes, operand_bytes, op_bytes, command_bytes, IsLawfulOperand, IsLawfulOp, IsLawfulCommand}
 use Rattle.rr_frame.specs.FactFormat.{estimate_bytes, fact_bytes, IsLawfulEstimate, IsLawfulFact}
 use Rattle.rr_frame.specs.GroupFormat.{group_bytes, IsLawfulGroup}
 use Rattle.rr_frame.specs.Snapshots.{Snapped}
@@ -63,12 +65,16 @@ name_fits bytes is = text_fits bytes (letters_fit is_name_byte name_byte bytes i
 value_fits : (bytes : List ℕ) → IsValue bytes → Bytes (text_bytes bytes)
 value_fits bytes is = text_fits bytes (letters_fit is_value_byte value_byte bytes is.letters)
 
+operand_fits : (o : Operand) → IsLawfulOperand o → Bytes (operand_bytes o)
+operand_fits Nothing is = All-nil (λ b. b < 256)
+operand_fits (Value value) is = value_fits value is
+operand_fits (Owner owner) is = number_fits 4 owner
+
 op_fits : (op : Op) → IsLawfulOp op → Bytes (op_bytes op)
 unfolding op_bytes
-op_fits (Claim name value) is = both_fit (number_bytes 1 1) (text_bytes name ++ text_bytes value) (number_fits 1 1) (both_fit (text_bytes name) (text_bytes value) (name_fits name is.0.0) (value_fits value is.1))
-op_fits (Update name value) is = both_fit (number_bytes 1 2) (text_bytes name ++ text_bytes value) (number_fits 1 2) (both_fit (text_bytes name) (text_bytes value) (name_fits name is.0.0) (value_fits value is.1))
-op_fits (Release name) is = both_fit (number_bytes 1 3) (text_bytes name) (number_fits 1 3) (name_fits name is.0)
-op_fits (Transfer name owner) is = both_fit (number_bytes 1 4) (text_bytes name ++ number_bytes 4 owner) (number_fits 1 4) (both_fit (text_bytes name) (number_bytes 4 owner) (name_fits name is.0.0) (number_fits 4 owner))
+op_fits op is =
+    both_fit (number_bytes 1 (op_byte (op_kind op))) (text_bytes (op_name op) ++ operand_bytes (op_operand op)) (number_fits 1 (op_byte (op_kind op)))
+    (both_fit (text_bytes (op_name op)) (operand_bytes (op_operand op)) (name_fits (op_name op) is.name.0) (operand_fits (op_operand op) is.operand))
 
 command_fits : (c : Command) → IsLawfulCommand c → Bytes (command_bytes c)
 unfolding command_bytes

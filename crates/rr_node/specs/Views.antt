@@ -239,13 +239,13 @@ pub record Ended (old o : OpeningState NodeDisk) (end : End) : Type 0 where
   pub snaps : last.MaySnap (closed o end)
   pub calls : o.disk.calls ≡ counted old.disk.calls
 
--- some last step did
-abbrev pub HasEnded : OpeningState NodeDisk → End → Type 0
-HasEnded o end = (old : OpeningState NodeDisk) × Ended old o end
+-- some last step did, and the opening has its end
+abbrev pub HasEnded : OpeningState NodeDisk → Type 0
+HasEnded o = (end : End) × (o.end ≡ Some end) × ((old : OpeningState NodeDisk) × Ended old o end)
 
 -- what comes then carries out the device call of that step
-abbrev pub Closes : OpeningState NodeDisk → End → Result Outcome Refusal → code.Doing → Type 0
-Closes o end answer new = (n p : ℕ) (old : OpeningState NodeDisk) → Ended old o end → Carries n p at.Device (does.Opening old) answer new
+abbrev pub Closes : OpeningState NodeDisk → Result Outcome Refusal → code.Doing → Type 0
+Closes o answer new = (end : End) → o.end ≡ Some end → (n p : ℕ) (old : OpeningState NodeDisk) → Ended old o end → Carries n p at.Device (does.Opening old) answer new
 
 -- a report tells nothing of an input that was taken
 abbrev pub quiet : Result (Unit {0}) Refusal → Result Outcome Refusal

@@ -19,7 +19,7 @@ use crate::serving::Serving;
 use core::mem::replace_with;
 use rr_core::{Core, Opening};
 use rr_disk::{FailingDisk, MemDisk};
-use rr_journal::{End, Journal};
+use rr_journal::{Journal, Stepped};
 use rr_types::{Message, NodeEvent, NodeId, Nodes, Refusal};
 use std::alloc::{AllocError, Global};
 
@@ -361,8 +361,8 @@ fn open_on(alloc: Global, doing: &mut Doing) -> Result<Outcome, Refusal>
 {
     match doing {
         Doing::Opening(opening) => match opening.step_on(alloc) {
-            Ok(None) => Ok(Outcome::Quiet),
-            Ok(Some(end)) => close(alloc, doing, end),
+            Ok(Stepped::More) => Ok(Outcome::Quiet),
+            Ok(Stepped::Ended) => close(alloc, doing),
             Err(refusal) => {
                 if is_device(refusal) {
                     fall(doing);
@@ -376,28 +376,28 @@ fn open_on(alloc: Global, doing: &mut Doing) -> Result<Outcome, Refusal>
     }
 }
 
-/// An opening ends, whose last step found this end.
-fn close(alloc: Global, doing: &mut Doing, end: End) -> Result<Outcome, Refusal>
-    requires { (o : OpeningState NodeDisk) × (doing.old ≡ Doing.Opening o) × HasEnded o end }
-    ensures { (o : OpeningState NodeDisk) → doing.old ≡ Doing.Opening o → Closes o end result doing.new }
+/// An opening ends, which has found its end.
+fn close(alloc: Global, doing: &mut Doing) -> Result<Outcome, Refusal>
+    requires { (o : OpeningState NodeDisk) × (doing.old ≡ Doing.Opening o) × HasEnded o }
+    ensures { (o : OpeningState NodeDisk) → doing.old ≡ Doing.Opening o → Closes o result doing.new }
 {
     replace_with(
         doing,
-        end,
-        |doing, end| -> (Doing, Result<Outcome, Refusal>)
-            requires { (o : OpeningState NodeDisk) × (doing ≡ Doing.Opening o) × HasEnded o end }
-            ensures { (o : OpeningState NodeDisk) → doing ≡ Doing.Opening o → Closes o end result.1 result.0 }
-        { close_up(alloc, doing, end) },
+        (),
+        |doing, _| -> (Doing, Result<Outcome, Refusal>)
+            requires { (o : OpeningState NodeDisk) × (doing ≡ Doing.Opening o) × HasEnded o }
+            ensures { (o : OpeningState NodeDisk) → doing ≡ Doing.Opening o → Closes o result.1 result.0 }
+        { close_up(alloc, doing) },
     )
 }
 
 /// The same of a node that is taken and given back.
-fn close_up(alloc: Global, doing: Doing, end: End) -> (Doing, Result<Outcome, Refusal>)
-    requires { (o : OpeningState NodeDisk) × (doing ≡ Doing.Opening o) × HasEnded o end }
-    ensures { (o : OpeningState NodeDisk) → doing ≡ Doing.Opening o → Closes o end result.1 result.0 }
+fn close_up(alloc: Global, doing: Doing) -> (Doing, Result<Outcome, Refusal>)
+    requires { (o : OpeningState NodeDisk) × (doing ≡ Doing.Opening o) × HasEnded o }
+    ensures { (o : OpeningState NodeDisk) → doing ≡ Doing.Opening o → Closes o result.1 result.0 }
 {
     match doing {
-        Doing::Opening(opening) => match opening.close(alloc, end) {
+        Doing::Opening(opening) => match opening.close(alloc) {
             Ok((core, slots)) => serve(alloc, core, slots),
             Err((refusal, disk)) => (Doing::Stopped(disk), Err(refusal)),
         },

@@ -18,7 +18,8 @@ use Rattle.rr_types.specs.Registry.{Holding, Bindings, holding_of, apply_op}
 use Rattle.rr_registry.specs.declared.names.Names.{Names}
 use Rattle.rr_registry.specs.Places.{filled, has_place, put_entry, held}
 use Rattle.rr_registry.proofs.PlaceLemmas.{joined, place_of_value, lookup-filled, filled-put}
-use Rattle.rr_registry.specs.Tables.{bindings_in, has_name_place, has_op_place, name_of}
+use Rattle.rr_types.specs.Commands.{op_name}
+use Rattle.rr_registry.specs.Tables.{bindings_in, has_name_place, has_op_place}
 use Rattle.rr_registry.proofs.PlacedLemmas.{filled-set, count-set}
 use Rattle.rr_registry.proofs.TableLemmas.{lookup-name}
 use Rattle.rr_registry.proofs.KeptLemmas.{lookup-insert_entry}
@@ -79,7 +80,7 @@ pub holding_in : (es : List (List ℕ × Option Holding)) (k : List ℕ) (o : Op
 holding_in es k o sorted there = sym (lookup-name k (filled es)) ∙ lookup-filled (slice_cmp nat_cmp) nat_list_cmp_total k es sorted ∙ ap joined there
 
 -- a name without a place is unknown
-pub unknown : (t : Names) (client : ℕ) (op : Op) → IsStrictlySortedBy (slice_cmp nat_cmp) (keys_of t.places.entries) → IsTrue (has_op_place t op) → lookup (is_at (slice_cmp nat_cmp (name_of op))) t.places.entries ≡ None → (bindings_in t, Unknown) ≡ apply_op (bindings_in t) client op
+pub unknown : (t : Names) (client : ℕ) (op : Op) → IsStrictlySortedBy (slice_cmp nat_cmp) (keys_of t.places.entries) → IsTrue (has_op_place t op) → lookup (is_at (slice_cmp nat_cmp (op_name op))) t.places.entries ≡ None → (bindings_in t, Unknown) ≡ apply_op (bindings_in t) client op
 unknown t client (Claim name value) sorted place none = let gone = ap is_some none in cc
 unknown t client (Update name value) sorted place none = let free : holding_of (bindings_in t) name ≡ None = holding_in t.places.entries name None sorted none in rw free
 unknown t client (Release name) sorted place none = let free : holding_of (bindings_in t) name ≡ None = holding_in t.places.entries name None sorted none in rw free

@@ -53,13 +53,6 @@ has_places t c = has_reply_place t c.request && has_op_place t.names c.op
 abbrev pub IsCounted : Names → Type 0
 IsCounted t = t.bound ≡ length (bindings_in t)
 
--- the name that an operation is about
-abbrev pub name_of : Op → List ℕ
-name_of (Claim name value) = name
-name_of (Update name value) = name
-name_of (Release name) = name
-name_of (Transfer name owner) = name
-
 -- whether an operation is a claim
 abbrev pub is_claim : Op → Bool
 is_claim (Claim name value) = true

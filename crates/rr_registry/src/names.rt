@@ -6,10 +6,11 @@ ghost use Rattle.std.specs.Cmp.Lexicographic.{slice_cmp};
 ghost use Rattle.std.specs.List.Sorted.{IsStrictlySortedBy};
 ghost use Rattle.std.specs.Map.{keys_of};
 ghost use Rattle.std.specs.Ordering.{nat_cmp};
+ghost use Rattle.rr_types.specs.Commands.{op_name};
 ghost use Rattle.rr_types.specs.Registry.{Bindings, holding_of, apply_op, bind};
 ghost use Rattle.rr_types.specs.Limits.{max_bound};
 ghost use Rattle.rr_registry.specs.Places.{held, has_place};
-ghost use Rattle.rr_registry.specs.Tables.{bindings_in, effected, has_name_place, has_op_place, name_of, may_free, CanHave, IsCounted, HasNoFreeName};
+ghost use Rattle.rr_registry.specs.Tables.{bindings_in, effected, has_name_place, has_op_place, may_free, CanHave, IsCounted, HasNoFreeName};
 
 use crate::entries::Entries;
 use crate::holding::Holding;
@@ -83,10 +84,10 @@ impl Names {
     /// What an operation does to its name for a client, and the reply to it.
     pub(crate) fn outcome(&self, client: u32, op: &Op) -> (Effect, Reply)
         requires { IsCounted self.now }
-        ensures step { (effected (bindings_in self.now) (name_of op.now) result.0, result.1) ≡ apply_op (bindings_in self.now) client op.now }
-        ensures can { CanHave self.now.bound (holding_of (bindings_in self.now) (name_of op.now)) op.now result.0 }
+        ensures step { (effected (bindings_in self.now) (op_name op.now) result.0, result.1) ≡ apply_op (bindings_in self.now) client op.now }
+        ensures can { CanHave self.now.bound (holding_of (bindings_in self.now) (op_name op.now)) op.now result.0 }
     {
-        outcome_at(self.bound, &self.holding(name_of(op)), client, op)
+        outcome_at(self.bound, &self.holding(op.name()), client, op)
     }
 
     /// Applies an operation for a client, and gives the reply. It takes no memory, as a claim has its place. The
@@ -98,7 +99,7 @@ impl Names {
         ensures counted { IsCounted self.new }
         ensures places { (n : List ℕ) → has_name_place self.new n ≡ has_name_place self.old n }
     {
-        match self.places.get_mut(name_of(op)) {
+        match self.places.get_mut(op.name()) {
             None => Reply::Unknown,
             Some(place) => {
                 let (effect, reply) = outcome_at(self.bound, place, client, op);
@@ -122,15 +123,15 @@ impl Names {
     /// Has an operation's effect on its name. No place is free, and none is left so. Where memory is refused the names
     /// are as they were.
     pub(crate) fn try_change(&mut self, op: &Op, effect: Effect) -> Result<(), AllocError>
-        requires can { CanHave self.old.bound (holding_of (bindings_in self.old) (name_of op.now)) op.now effect }
+        requires can { CanHave self.old.bound (holding_of (bindings_in self.old) (op_name op.now)) op.now effect }
         requires counted { IsCounted self.old }
         requires free { HasNoFreeName self.old }
-        ensures bindings { OnOk result (bindings_in self.new ≡ effected (bindings_in self.old) (name_of op.now) effect) }
+        ensures bindings { OnOk result (bindings_in self.new ≡ effected (bindings_in self.old) (op_name op.now) effect) }
         ensures err { OnErr result (bindings_in self.new ≡ bindings_in self.old) }
         ensures counted { IsCounted self.new }
         ensures free { HasNoFreeName self.new }
     {
-        let name = name_of(op);
+        let name = op.name();
         match effect {
             Effect::Nothing => (),
             Effect::Bind(holding) => {
@@ -247,16 +248,6 @@ fn put_new(
     }
 }
 
-/// The name that an operation is about.
-fn name_of(op: &Op) -> &Name
-    ensures { result.now ≡ name_of op.now }
-{
-    match op {
-        Op::Claim(name, _) | Op::Update(name, _) | Op::Release(name) | Op::Transfer(name, _) =>
-            name,
-    }
-}
-
 // A claim of a name that has this holding while so many names are bound.
 fn claim(bound: usize, held: &Option<Holding>, client: u32, value: &Value) -> (Effect, Reply)
     ensures step { (m : Bindings) (name : List ℕ) → bound ≡ length m → held.now ≡ holding_of m name → (effected m name result.0, result.1) ≡ apply_op m client (Op.Claim name value.now) }
@@ -312,7 +303,7 @@ fn transfer(held: &Option<Holding>, client: u32, owner: u32) -> (Effect, Reply)
 
 // What an operation does for a client to its name, which has this holding while so many names are bound, and the reply.
 fn outcome_at(bound: usize, held: &Option<Holding>, client: u32, op: &Op) -> (Effect, Reply)
-    ensures step { (m : Bindings) → bound ≡ length m → held.now ≡ holding_of m (name_of op.now) → (effected m (name_of op.now) result.0, result.1) ≡ apply_op m client op.now }
+    ensures step { (m : Bindings) → bound ≡ length m → held.now ≡ holding_of m (op_name op.now) → (effected m (op_name op.now) result.0, result.1) ≡ apply_op m client op.now }
     ensures can { CanHave bound held.now op.now result.0 }
 {
     match op {

@@ -1,3 +1,4 @@
+mod BoardLemmas
 mod NewsLemmas
 mod ShellLemmas
 mod ToldLemmas

@@ -2,7 +2,8 @@
 use Rattle.std.proofs.Common.{◌≡◌, ◌⊎◌, ◌<◌, ℕ, Bool, List, [], ◌∷◌, length, map, Bor, Option, None, Some, Result, Ok, Err, inl, inr, refl, arith, ap₂, subst}
 use Rattle.clap.specs.Words.{Text}
 use Rattle.rr_types.specs.declared.refusal.Refusal.{Refusal}
-use Rattle.rr_types.specs.declared.refusal.Refusal.TheVariants.{Device, OutOfMemory}
+use Rattle.rr_types.specs.declared.refusal.Refusal.TheVariants.{OutOfMemory, Device, Damaged, Failed, Down, BadNodes, BadName, BadValue, ListFull, RoundsOut, Malformed, StrangeMark, Busy, BadEvent, SeatsTaken, TooLarge, AuditNo, NoGuard}
+use Rattle.rr_cli.specs.Refusals.{status_of}
 use Rattle.rr_stream.specs.Streams.{Printing, Reading}
 use Rattle.rr_shell.specs.declared.troubles.Trouble.{Trouble}
 use Rattle.rr_shell.specs.declared.talking.Stop.{Stop}
@@ -32,3 +33,24 @@ by_lines json strict n (line ∷ lines) from status old new some ends = (refl, e
 pub spoken_so : (json strict : Bool) (n : ℕ) (lines : List Text) (text : List ℕ) (faults : ℕ) (to : Reading) (status : ℕ) (old new : Printing) → faults ≡ 0 → text ≡ lines_text lines → EndsOnShell json strict n (record { remaining = Some text; faults = faults }) to status old new → EndsOnLines json strict n lines status old new
 spoken_so json strict n lines text faults to status old new none is ends =
     spoken to (subst (λ (r : Reading). EndsOnShell json strict n r to status old new) (ap₂ (λ (t : List ℕ) (f : ℕ). record { remaining = Some t; faults = f }) is none) ends)
+
+-- no refusal ends well
+pub never_well : (refusal : Refusal) → status_of refusal ≡ 0 → ⊥
+never_well OutOfMemory well = omega arith
+never_well Device well = omega arith
+never_well (Damaged area offset) well = omega arith
+never_well Failed well = omega arith
+never_well Down well = omega arith
+never_well BadNodes well = omega arith
+never_well BadName well = omega arith
+never_well BadValue well = omega arith
+never_well ListFull well = omega arith
+never_well RoundsOut well = omega arith
+never_well (Malformed offset) well = omega arith
+never_well StrangeMark well = omega arith
+never_well Busy well = omega arith
+never_well (BadEvent line) well = omega arith
+never_well SeatsTaken well = omega arith
+never_well TooLarge well = omega arith
+never_well (AuditNo index) well = omega arith
+never_well NoGuard well = omega arith

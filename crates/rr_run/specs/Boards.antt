@@ -28,46 +28,82 @@ pub data Call : Type 0 where
   finds_over : (is_over : Bool) → Call
   ends : (refusal : Refusal) → Call
 
--- a question was left, its node's client was rung for, and this was taken as the answer
-abbrev pub IsTold : (Call → Type 0) → Question → Told → Type 0
-IsTold Gave question t = Gave (leaves question) × Gave (rings (node_of question)) × Gave (takes t)
+-- A call that only looks leaves the board as it is. The others bring it from one state to the next: so what is taken was told behind the
+-- question that was left before.
+
+-- nothing was told so far, while the run went on
+pub data IsUntold {B : Type 0} (gives : B → Call → B → Type 0) : B → B → Type 0 where
+  still : (board : B) → IsUntold gives board board
+  once_more : (old mid new : B) → IsUntold gives old mid → gives mid (misses false) new → IsUntold gives old new
+
+-- a question was left, once, and then its node's client was rung for; nothing was told for a while
+pub record IsLeft {B : Type 0} (gives : B → Call → B → Type 0) (question : Question) (from to : B) : Type 0 where
+  pub left_at : B
+  pub rung_at : B
+  pub leaving : gives from (leaves question) left_at
+  pub ringing : gives left_at (rings (node_of question)) rung_at
+  pub waiting : IsUntold gives rung_at to
+
+-- then this was taken as the answer
+pub record IsTold {B : Type 0} (gives : B → Call → B → Type 0) (question : Question) (t : Told) (from to : B) : Type 0 where
+  pub told_at : B
+  pub asked : IsLeft gives question from told_at
+  pub taking : gives told_at (takes t) to
+
+-- or nothing was told behind a look that saw the end of the run, which has ended by this refusal
+pub record IsUnanswered {B : Type 0} (gives : B → Call → B → Type 0) (question : Question) (e : Refusal) (from to : B) : Type 0 where
+  pub missed_at : B
+  pub asked : IsLeft gives question from missed_at
+  pub missing : gives missed_at (misses true) to
+  pub ending : gives to (ends e) to
 
 -- the run was found to be over, and to have ended by this refusal
-abbrev pub IsCutOff : (Call → Type 0) → Refusal → Type 0
-IsCutOff Gave e = Gave (finds_over true) × Gave (ends e)
+abbrev pub IsCutOff : {B : Type 0} → (B → Call → B → Type 0) → Refusal → B → Type 0
+IsCutOff gives e at = gives at (finds_over true) at × gives at (ends e) at
 
--- a node was turned on; or off, and its client rung for
-abbrev pub IsTurned : (Call → Type 0) → ℕ → Bool → Type 0
-IsTurned Gave p true = Gave (turns_on p)
-IsTurned Gave p false = Gave (turns_off p) × Gave (rings p)
+-- a node was turned on; or off, and then its client rung for
+abbrev pub IsTurned : {B : Type 0} → (B → Call → B → Type 0) → ℕ → Bool → B → B → Type 0
+IsTurned gives p true from to = gives from (turns_on p) to
+IsTurned {B} gives p false from to = (mid : B) × gives from (turns_off p) mid × gives mid (rings p) to
 
--- a node was turned on, and found to be up; or off, and found not to be
-abbrev pub IsSwitched : (Call → Type 0) → ℕ → Bool → Type 0
-IsSwitched Gave p is_on = IsTurned Gave p is_on × Gave (finds_up p is_on)
+-- a node was turned on, and then found to be up; or off, and then found not to be
+abbrev pub IsSwitched : {B : Type 0} → (B → Call → B → Type 0) → ℕ → Bool → B → B → Type 0
+IsSwitched gives p is_on from to = IsTurned gives p is_on from to × gives to (finds_up p is_on) to
+
+-- at some time a question was told this
+abbrev pub WasTold : {B : Type 0} → (B → Call → B → Type 0) → Question → Told → Type 0
+WasTold {B} gives question t = (from : B) × (to : B) × IsTold gives question t from to
+
+-- at some time a node was switched; it was found to be on, or not to be
+abbrev pub WasSwitched : {B : Type 0} → (B → Call → B → Type 0) → ℕ → Bool → Type 0
+WasSwitched {B} gives p is_on = (from : B) × (to : B) × IsSwitched gives p is_on from to
+
+abbrev pub WasFound : {B : Type 0} → (B → Call → B → Type 0) → ℕ → Bool → Type 0
+WasFound {B} gives p is_on = (at : B) × gives at (finds_on p is_on) at
 
 -- what came of a request, by what was told to the question that submits it
-abbrev pub Came : (Call → Type 0) → Question → RequestNo → Outcome → Type 0
-Came Gave question q o = (t : Told) × IsTold Gave question t × (o ≡ outcome_in (node_of question) q t)
+abbrev pub Came : {B : Type 0} → (B → Call → B → Type 0) → Question → RequestNo → Outcome → Type 0
+Came gives question q o = (t : Told) × WasTold gives question t × (o ≡ outcome_in (node_of question) q t)
 
 -- what was done, by the calls that were made: all nodes were found to be up. Or for a line: the node of the line was asked what it asks, and
 -- what came of that was told; or that node was switched, or was found to be on, or not to be
-abbrev pub DidBy : (Call → Type 0) → Deed → Type 0
-DidBy Gave waits = Gave (finds_all_up true)
-DidBy Gave (submits p op o) = (q : RequestNo) × Came Gave (asks.Submit p (record { request = q; op = op })) q o
-DidBy Gave (repeats p o) = (o ≡ Nothing) ⊎ ((c : Command) × Came Gave (asks.Submit p c) c.request o)
-DidBy Gave (catches_up p o) = (q : RequestNo) × Came Gave (asks.Sync p q) q o
-DidBy Gave (looks p name a) = (t : Told) × IsTold Gave (asks.Look p name) t × (a ≡ sight_in p name t)
-DidBy Gave (lists p prefix l) = (t : Told) × IsTold Gave (asks.Names p prefix) t × (l ≡ listing_in p prefix t)
-DidBy Gave (observes p prefix) = (t : Told) × IsTold Gave (asks.Watch p prefix) t
-DidBy Gave (deeds.finds_on p) = Gave (finds_on p true)
-DidBy Gave (finds_off p) = Gave (finds_on p false)
-DidBy Gave (stops p) = IsSwitched Gave p false
-DidBy Gave (starts p) = IsSwitched Gave p true
-DidBy Gave (snaps p written) =
-    (Gave (finds_on p false) × (written ≡ false)) ⊎ ((t : Told) × IsTold Gave (asks.Snapshot p) t × (written ≡ is_written t))
-DidBy Gave (tells s) =
-    (Gave (finds_on s.node false) × (s.summary ≡ None)) ⊎ ((t : Told) × IsTold Gave (asks.Summary s.node) t × (s.summary ≡ summary_in t))
+abbrev pub DidBy : {B : Type 0} → (B → Call → B → Type 0) → Deed → Type 0
+DidBy {B} gives waits = (at : B) × gives at (finds_all_up true) at
+DidBy gives (submits p op o) = (q : RequestNo) × Came gives (asks.Submit p (record { request = q; op = op })) q o
+DidBy gives (repeats p o) = (o ≡ Nothing) ⊎ ((c : Command) × Came gives (asks.Submit p c) c.request o)
+DidBy gives (catches_up p o) = (q : RequestNo) × Came gives (asks.Sync p q) q o
+DidBy gives (looks p name a) = (t : Told) × WasTold gives (asks.Look p name) t × (a ≡ sight_in p name t)
+DidBy gives (lists p prefix l) = (t : Told) × WasTold gives (asks.Names p prefix) t × (l ≡ listing_in p prefix t)
+DidBy gives (observes p prefix) = (t : Told) × WasTold gives (asks.Watch p prefix) t
+DidBy gives (deeds.finds_on p) = WasFound gives p true
+DidBy gives (finds_off p) = WasFound gives p false
+DidBy gives (stops p) = WasSwitched gives p false
+DidBy gives (starts p) = WasSwitched gives p true
+DidBy gives (snaps p written) =
+    (WasFound gives p false × (written ≡ false)) ⊎ ((t : Told) × WasTold gives (asks.Snapshot p) t × (written ≡ is_written t))
+DidBy gives (tells s) =
+    (WasFound gives s.node false × (s.summary ≡ None)) ⊎ ((t : Told) × WasTold gives (asks.Summary s.node) t × (s.summary ≡ summary_in t))
 
--- any call: nothing is said of which calls a post was given
-abbrev pub any_call : Call → Type 0
-any_call call = Unit {0}
+-- any call: nothing is said of what the calls of a post do
+abbrev pub any_call : {B : Type 0} → B → Call → B → Type 0
+any_call old call new = Unit {0}

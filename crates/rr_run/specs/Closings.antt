@@ -3,7 +3,7 @@ use Rattle.std.specs.Prelude.{◌≡◌, ◌⊎◌, ℕ, Bool, true, false}
 use Rattle.rr_types.specs.declared.refusal.Refusal.{Refusal}
 use Rattle.rr_types.specs.declared.refusal.Refusal.TheVariants as refusals
 use Rattle.rr_folders.specs.declared.judging.Fault.{Fault}
-use Rattle.rr_folders.specs.declared.judging.Fault.TheVariants.{Cut, OtherNode, OtherNodes}
+use Rattle.rr_folders.specs.declared.judging.Fault.TheVariants.{Cut, OtherNode, OtherNodes, Older, Shorter, Altered}
 use Rattle.rr_journal.specs.Image.{Found, Broken}
 use Rattle.rr_journal.specs.Ends.{area_number}
 use Rattle.rr_folders.specs.declared.closed.Closed.{Closed}
@@ -15,6 +15,9 @@ abbrev pub may_be_damaged : Fault → Bool
 may_be_damaged Cut = true
 may_be_damaged (OtherNode q) = true
 may_be_damaged (OtherNodes k) = true
+may_be_damaged Older = true
+may_be_damaged Shorter = true
+may_be_damaged Altered = true
 may_be_damaged fault = false
 
 -- a device that fails, where another program has locked a folder or a call has failed; the opening's refusal, where it has one. Where a

@@ -6,7 +6,7 @@ use Rattle.rr_shell.specs.declared.outcome.Outcome.TheVariants.{Answered}
 use Rattle.rr_shell.specs.Texts.{left_behind, is_nearly_full}
 use Rattle.rr_shell.specs.declared.answering.Hint.{Hint}
 use Rattle.rr_shell.specs.declared.answering.Hint.TheVariants.{Again, Left}
-use Rattle.rr_run.specs.Boards.{Call, IsTold}
+use Rattle.rr_run.specs.Boards.{Call, WasTold}
 use Rattle.rr_run.specs.declared.asking.Question.{Question}
 use Rattle.rr_run.specs.declared.asking.Told.{Told}
 use Rattle.rr_run.specs.declared.asking.Told.TheVariants as told
@@ -28,5 +28,5 @@ warned_behind warned (Some (Left n)) = true
 warned_behind warned hint = warned
 
 -- a person is told this, by what was told to the question
-abbrev pub IsHinted : (Call → Type 0) → Question → (Told → Option Hint) → Option Hint → Type 0
-IsHinted Gave question By hint = (t : Told) × IsTold Gave question t × (hint ≡ By t)
+abbrev pub IsHinted : {B : Type 0} → (B → Call → B → Type 0) → Question → (Told → Option Hint) → Option Hint → Type 0
+IsHinted gives question By hint = (t : Told) × WasTold gives question t × (hint ≡ By t)

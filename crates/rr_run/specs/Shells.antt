@@ -12,6 +12,7 @@ use Rattle.rr_shell.specs.Deeds.{Deed}
 use Rattle.rr_shell.specs.Talks.{HasTalked, BreaksOff}
 use Rattle.rr_cli.specs.Randoms.{IsNumberIn}
 use Rattle.rr_cli.specs.Refusals.{status_of}
+use Rattle.rr_run.specs.declared.post.AtPost.{AtPost}
 use Rattle.rr_run.specs.Boards.{DidBy, any_call}
 
 -- the client that a word names; client 0 where there is no word
@@ -37,7 +38,7 @@ EndsOnTalk (Err stop) failed status = IsRefusedBy status
 
 -- what is done for a line of a shell whose board is a post
 abbrev pub shell_did : Deed → Type 0
-shell_did = DidBy any_call
+shell_did = DidBy {B = AtPost} any_call
 
 -- a shell over folders, with n nodes, that answers with JSON or not, and ends at trouble or not: a talk that is over, with or
 -- without trouble; or one that is over or broken off, and the run, memory or a stream has failed; or it doesn't begin, as the

@@ -8,15 +8,12 @@ ghost use Rattle.rr_run.specs.Endings.{refusal_of};
 use crate::ending::Ended;
 use crate::post::Post;
 use crate::teller::Teller;
-use rr_disk::{FileDisk, OpenedFile};
+use rr_disk::Disk;
 use rr_shell::{Asked, Prompting, Stop, Trouble, talk};
 use rr_stream::Sink;
 use rr_threads::run_switched;
 use rr_turn::Open;
 use rr_types::{Nodes, Refusal};
-use std::fs::OpenFile;
-use std::io::{Read, Seek, Write};
-use std::os::unix::fs::FileExt;
 use std::sync::Wait;
 use std::thread;
 use std::thread::{Scope, Threads};
@@ -68,20 +65,23 @@ fn end_behind<R: Wait, F: FnOnce() -> Result<(), Refusal>>(rt: &R, post: &Post, 
 }
 
 // Runs the nodes until nothing is asked any more, or the run fails.
-fn run_nodes<
-    F: Read + Write + Seek + FileExt + OpenFile + Drop + Send,
-    R: AllocGlobal + Threads + Wait + Clock + Sync,
->(
+fn run_nodes<D: Disk + Drop + Send, R: AllocGlobal + Threads + Wait + Clock + Sync>(
     rt: &R,
     nodes: Nodes,
-    disks: Vec<FileDisk<OpenedFile<F>>>,
+    disks: Vec<D>,
     clients: Vec<Vec<Teller<'_>>>,
     post: &Post,
-) -> Ended {
+) -> Ended
+    requires alike { (one other : D) → D.tells one → D.tells other }
+{
     let switches = &post.switches;
-    end_behind(rt, post, || {
-        run_switched(rt, rt.alloc(), nodes, disks, clients, &Open, switches)
-    })
+    end_behind(
+        rt,
+        post,
+        ||
+            requires { (one other : D) → D.tells one → D.tells other }
+        { run_switched(rt, rt.alloc(), nodes, disks, clients, &Open, switches) },
+    )
 }
 
 // Where the nodes' thread isn't started, the run has ended.
@@ -99,42 +99,42 @@ fn end_unless<R: Wait>(rt: &R, post: &Post, is_started: bool) -> Option<Ended>
 fn start_nodes<
     's,
     E,
-    F: Read + Write + Seek + FileExt + OpenFile + Drop + Send + 's,
+    D: Disk + Drop + Send + 's,
     R: AllocGlobal + Threads + Wait + Clock + Sync + 's,
 >(
     scope: &Scope<'s, E>,
     rt: &'s R,
     nodes: Nodes,
-    disks: Vec<FileDisk<OpenedFile<F>>>,
+    disks: Vec<D>,
     clients: Vec<Vec<Teller<'s>>>,
     post: &'s Post,
-) {
-    let started = scope.spawn(move || run_nodes(rt, nodes, disks, clients, post));
+)
+    requires alike { (one other : D) → D.tells one → D.tells other }
+{
+    let started = scope.spawn(
+        move ||
+            requires { (one other : D) → D.tells one → D.tells other }
+        { run_nodes(rt, nodes, disks, clients, post) },
+    );
     let _ended = end_unless(rt, post, started.is_ok());
 }
 
 // Does some work while the nodes run. Then they come to their end.
 fn run_beside<
-    F: Read + Write + Seek + FileExt + OpenFile + Drop + Send,
+    D: Disk + Drop + Send,
     R: AllocGlobal + Threads + Wait + Clock + Sync,
     T: Work<Output = A> + Drop,
     A,
->(
-    rt: &R,
-    nodes: Nodes,
-    disks: Vec<FileDisk<OpenedFile<F>>>,
-    clients: Vec<Vec<Teller<'_>>>,
-    post: &Post,
-    work: T,
-) -> A
-    requires { T.can_run work }
+>(rt: &R, nodes: Nodes, disks: Vec<D>, clients: Vec<Vec<Teller<'_>>>, post: &Post, work: T) -> A
+    requires alike { (one other : D) → D.tells one → D.tells other }
+    requires runs { T.can_run work }
     ensures { T.gives work result }
 {
     thread::scope(
         thread::scope_env(),
         rt,
         move |scope|
-            requires { IsSend F.row × IsSync R.row × T.can_run work }
+            requires { IsSend D.row × IsSync R.row × ((one other : D) → D.tells one → D.tells other) × T.can_run work }
             ensures { T.gives work result }
         {
             start_nodes(scope, rt, nodes, disks, clients, post);
@@ -152,19 +152,20 @@ fn take_back<T>(lent: &mut T)
 
 // Calls a closure while the nodes run.
 fn call_beside<
-    F: Read + Write + Seek + FileExt + OpenFile + Drop + Send,
+    D: Disk + Drop + Send,
     R: AllocGlobal + Threads + Wait + Clock + Sync,
     C: FnMut() -> A,
     A,
 >(
     rt: &R,
     nodes: Nodes,
-    disks: Vec<FileDisk<OpenedFile<F>>>,
+    disks: Vec<D>,
     clients: Vec<Vec<Teller<'_>>>,
     post: &Post,
     work: &mut C,
 ) -> A
-    requires { C.pre work.old }
+    requires alike { (one other : D) → D.tells one → D.tells other }
+    requires callable { C.pre work.old }
     ensures { C.step work.old result work.new }
 {
     let (work, given) = run_beside(rt, nodes, disks, clients, post, Lent { work });
@@ -174,7 +175,7 @@ fn call_beside<
 
 /// Talks while the nodes run.
 pub(crate) fn talk_beside<
-    F: Read + Write + Seek + FileExt + OpenFile + Drop + Send,
+    D: Disk + Drop + Send,
     R: AllocGlobal + Threads + Wait + Clock + Sync,
     I: Prompting,
     O: Sink + Send,
@@ -182,7 +183,7 @@ pub(crate) fn talk_beside<
 >(
     rt: &R,
     nodes: Nodes,
-    disks: Vec<FileDisk<OpenedFile<F>>>,
+    disks: Vec<D>,
     clients: Vec<Vec<Teller<'_>>>,
     post: &Post,
     json: bool,
@@ -191,6 +192,7 @@ pub(crate) fn talk_beside<
     input: &mut I,
     out: &mut O,
 ) -> Result<Option<Trouble>, Stop>
+    requires alike { (one other : D) → D.tells one → D.tells other }
     ensures { Talks A.did json strict nodes (I.reading input.old) (I.reading input.new) (O.printing out.old) (O.printing out.new) result }
 {
     let alloc = rt.alloc();

@@ -1,7 +1,7 @@
 //! The board by which a shell asks the clients of nodes, and stops and starts the nodes.
 
 ghost use Rattle.std.specs.Prelude.{◌≡◌, true, None, IfOk, IfErr, IfSome, OnOk};
-ghost use Rattle.rr_run.specs.Boards.{Call, finds_on, finds_up, finds_all_up, turns_off, turns_on, leaves, rings, takes, misses, finds_over, ends, IsTold, IsTurned, IsSwitched, IsCutOff};
+ghost use Rattle.rr_run.specs.Boards.{Call, finds_on, finds_up, finds_all_up, turns_off, turns_on, leaves, rings, takes, misses, finds_over, ends, IsTold, IsUnanswered, IsTurned, IsSwitched, IsCutOff};
 ghost use Rattle.rr_run.specs.Questions.{node_of};
 
 use crate::asking::{Question, Told};
@@ -13,52 +13,52 @@ use std::sync::Wait;
 /// Where a shell leaves a question and takes the answer, with the bells of the nodes' clients, and the switches of the nodes. A
 /// function over any board makes calls of it by these functions alone, so its clauses can name the calls that it made.
 pub(crate) trait Board {
-    /// That this call was made, and answered so.
-    ghost gave: { Call → Type 0 };
+    /// That a call may have brought the board from one state to another, and was answered so. A call that only looks leaves it as it is.
+    ghost gives: { Self → Call → Self → Type 0 };
 
     /// Whether a node hasn't been stopped since it was last started.
     fn is_on(&self, node: NodeId) -> bool
-        ensures { gave (finds_on node result) };
+        ensures { gives self.now (finds_on node result) self.now };
 
     /// Whether a node is up.
     fn is_up(&self, node: NodeId) -> bool
-        ensures { gave (finds_up node result) };
+        ensures { gives self.now (finds_up node result) self.now };
 
     /// Whether all nodes are up.
     fn are_all_up(&self) -> bool
-        ensures { gave (finds_all_up result) };
+        ensures { gives self.now (finds_all_up result) self.now };
 
     /// A node is to go down.
-    fn turn_off(&self, node: NodeId) -> Cause
-        ensures off { gave (turns_off node) }
+    fn turn_off(&mut self, node: NodeId) -> Cause
+        ensures off { gives self.old (turns_off node) self.new }
         ensures node { result.node ≡ node };
 
     /// A node is to come up.
-    fn turn_on(&self, node: NodeId)
-        ensures { gave (turns_on node) };
+    fn turn_on(&mut self, node: NodeId)
+        ensures { gives self.old (turns_on node) self.new };
 
     /// Leaves a question.
-    fn leave<R: Wait>(&self, rt: &R, question: &Question) -> Cause
-        ensures left { gave (leaves question.now) }
+    fn leave<R: Wait>(&mut self, rt: &R, question: &Question) -> Cause
+        ensures left { gives self.old (leaves question.now) self.new }
         ensures node { result.node ≡ node_of question.now };
 
     /// Rings for a node's client, behind what it is to see.
-    fn ring(&self, cause: &Cause)
-        ensures { gave (rings cause.now.node) };
+    fn ring(&mut self, cause: &Cause)
+        ensures { gives self.old (rings cause.now.node) self.new };
 
     /// Whether the run has ended by now, so that nothing is told any more.
     fn look_at_end(&self) -> Seen
-        ensures { gave (finds_over result.has_ended) };
+        ensures { gives self.now (finds_over result.has_ended) self.now };
 
     /// Takes what is told, once it lies there. It is looked for behind this look at the end of the run: where that saw the end, and
     /// nothing lies there, nothing is told any more.
-    fn take<R: Wait>(&self, rt: &R, seen: &Seen) -> Option<Told>
-        ensures told { IfSome result (λ told. gave (takes told)) }
-        ensures none { result ≡ None → gave (misses seen.now.has_ended) };
+    fn take<R: Wait>(&mut self, rt: &R, seen: &Seen) -> Option<Told>
+        ensures told { IfSome result (λ told. gives self.old (takes told) self.new) }
+        ensures none { result ≡ None → gives self.old (misses seen.now.has_ended) self.new };
 
     /// The refusal by which the run has ended; `Down`, where it has ended without one.
     fn ending(&self) -> Refusal
-        ensures { gave (ends result) };
+        ensures { gives self.now (ends result) self.now };
 
     /// Waits until something is told, or a while.
     fn rest<R: Wait>(&self, rt: &R);
@@ -75,8 +75,8 @@ pub(crate) trait Board {
 /// # Errors
 /// The refusal by which the run has ended; `Down`, where it has ended without one.
 pub(crate) fn wait_until_begun<B: Board, R: Wait>(board: &B, rt: &R) -> Result<(), Refusal>
-    ensures ok { OnOk result (B.gave (finds_all_up true)) }
-    ensures err { IfErr result (IsCutOff B.gave) }
+    ensures ok { OnOk result (B.gives board.now (finds_all_up true) board.now) }
+    ensures err { IfErr result (λ e. IsCutOff B.gives e board.now) }
 {
     for _ in rt.forever() {
         if board.are_all_up() {
@@ -95,12 +95,12 @@ pub(crate) fn wait_until_begun<B: Board, R: Wait>(board: &B, rt: &R) -> Result<(
 /// # Errors
 /// As of `wait_until_begun`.
 pub(crate) fn ask<B: Board, R: Wait>(
-    board: &B,
+    board: &mut B,
     rt: &R,
     question: &Question,
 ) -> Result<Told, Refusal>
-    ensures ok { IfOk result (IsTold B.gave question.now) }
-    ensures err { IfErr result (λ e. B.gave (misses true) × B.gave (ends e)) }
+    ensures ok { IfOk result (λ told. IsTold B.gives question.now told board.old board.new) }
+    ensures err { IfErr result (λ e. IsUnanswered B.gives question.now e board.old board.new) }
 {
     let left = board.leave(rt, question);
     board.ring(&left);
@@ -118,8 +118,8 @@ pub(crate) fn ask<B: Board, R: Wait>(
 }
 
 // Turns a node's switch.
-fn turn<B: Board>(board: &B, node: NodeId, is_on: bool)
-    ensures { IsTurned B.gave node is_on }
+fn turn<B: Board>(board: &mut B, node: NodeId, is_on: bool)
+    ensures { IsTurned B.gives node is_on board.old board.new }
 {
     if is_on {
         board.turn_on(node);
@@ -134,13 +134,13 @@ fn turn<B: Board>(board: &B, node: NodeId, is_on: bool)
 /// # Errors
 /// As of `wait_until_begun`.
 pub(crate) fn switch<B: Board, R: Wait>(
-    board: &B,
+    board: &mut B,
     rt: &R,
     node: NodeId,
     is_on: bool,
 ) -> Result<(), Refusal>
-    ensures ok { OnOk result (IsSwitched B.gave node is_on) }
-    ensures err { IfErr result (λ e. IsTurned B.gave node is_on × IsCutOff B.gave e) }
+    ensures ok { OnOk result (IsSwitched B.gives node is_on board.old board.new) }
+    ensures err { IfErr result (λ e. IsTurned B.gives node is_on board.old board.new × IsCutOff B.gives e board.new) }
 {
     turn(board, node, is_on);
     for _ in rt.forever() {

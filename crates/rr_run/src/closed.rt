@@ -1,10 +1,11 @@
 //! The lines that tell why the folders of a run aren't opened.
 
+ghost use Rattle.std.specs.Prelude.{◌≡◌};
 ghost use Rattle.rr_journal.specs.Image.{found};
-ghost use Rattle.rr_run.specs.Closings.{IsRefusalOf, IsClosedBy, IsRefusedFor};
+ghost use Rattle.rr_run.specs.Closings.{may_be_damaged, IsRefusalOf, IsClosedBy, IsRefusedFor};
 
 use rr_cli::{end_by_refusal, print_folder_fault};
-use rr_folders::{Closed, Fault};
+use rr_folders::{Closed, Fault, print_closed, print_fault};
 use rr_journal::read_image;
 use rr_types::{NodeId, Nodes, Refusal};
 use std::alloc::Global;
@@ -28,9 +29,9 @@ where
     let refusal = refusal_of(rt, dir, nodes, closed);
     let ending = end_by_refusal(err, &refusal);
     let _ = match closed {
-        Closed::OutOfMemory => Ok(()),
-        Closed::InUse(path) => writeln!(err, "{path}: another program has locked it"),
-        Closed::Failed { path, call, error } => writeln!(err, "{path}: {call}: {error}"),
+        Closed::OutOfMemory | Closed::InUse(_) | Closed::Failed { .. } => {
+            print_closed(err, closed)
+        }
         Closed::Unopened(node, _) => print_unopened(rt, err, dir, *node, &refusal),
         Closed::Refused(node, fault) => print_refused(rt, err, dir, nodes, *node, fault, &refusal),
     };
@@ -45,10 +46,21 @@ fn refusal_of<R: Files + AllocGlobal>(rt: &R, dir: &str, nodes: Nodes, closed: &
         Closed::OutOfMemory => Refusal::OutOfMemory,
         Closed::InUse(_) | Closed::Failed { .. } => Refusal::Device,
         Closed::Unopened(_, refusal) => *refusal,
-        Closed::Refused(node, Fault::Cut | Fault::OtherNode(_) | Fault::OtherNodes(_)) => {
+        Closed::Refused(node, fault) if may_be_damaged(fault) => {
             opening_refusal(rt, dir, nodes, *node)
         }
         Closed::Refused(..) => Refusal::Device,
+    }
+}
+
+// Whether an opening of the disk may find it too.
+fn may_be_damaged(fault: &Fault) -> bool
+    ensures { result ≡ may_be_damaged fault.now }
+{
+    match fault {
+        Fault::Cut | Fault::OtherNode(_) | Fault::OtherNodes(_) => true,
+        Fault::Older | Fault::Shorter | Fault::Altered => true,
+        _ => false,
     }
 }
 
@@ -96,7 +108,7 @@ fn print_unopened<R: Files + AllocGlobal, W: Write>(
     print_folder_fault(rt, err, path.as_str(), refusal)
 }
 
-// Prints why a node's folder may not be opened.
+// Prints why a node's folder may not be opened. Where an opening finds damage, that is told.
 fn print_refused<R: Files + AllocGlobal, W: Write>(
     rt: &R,
     err: &mut W,
@@ -106,55 +118,11 @@ fn print_refused<R: Files + AllocGlobal, W: Write>(
     fault: &Fault,
     refusal: &Refusal,
 ) -> io::Result<()> {
-    let path = node.index();
     match fault {
-        Fault::Missing => write!(err, "{dir}/{path}: the folder is gone, and ")?,
-        Fault::Blank => write!(err, "{dir}/{path}: its disk is blank, and ")?,
-        Fault::Cut if !matches!(refusal, Refusal::Device) => {
-            return print_unopened(rt, err, dir, node, refusal);
+        Fault::Cut | Fault::Older | Fault::Shorter | Fault::Altered
+            if !matches!(refusal, Refusal::Device) => {
+            print_unopened(rt, err, dir, node, refusal)
         }
-        Fault::Cut => write!(err, "{dir}/{path}: a file of its disk is gone or cut, and ")?,
-        Fault::OtherNode(_) | Fault::OtherNodes(_) | Fault::OtherCluster | Fault::Unmarked => {
-            return print_other(err, dir, nodes, node, fault);
-        }
-    }
-    writeln!(
-        err,
-        "node {path} can't know any more what it promised; put the folder back as it was last, or go on from the others by rr export"
-    )
-}
-
-// Prints whose folder it is, where it is another's.
-fn print_other<W: Write>(
-    err: &mut W,
-    dir: &str,
-    nodes: Nodes,
-    node: NodeId,
-    fault: &Fault,
-) -> io::Result<()> {
-    let (path, asked) = (node.index(), nodes.count());
-    match fault {
-        Fault::OtherNode(other) => {
-            let other = other.index();
-            writeln!(
-                err,
-                "{dir}/{path}: it is the folder of node {other}; put each folder back in its place"
-            )
-        }
-        Fault::OtherNodes(others) => {
-            let others = others.count();
-            writeln!(
-                err,
-                "{dir}: its cluster has another number of nodes than {asked}; ask for --nodes {others}"
-            )
-        }
-        Fault::OtherCluster => writeln!(
-            err,
-            "{dir}/{path}: it is a folder of another cluster; put that of this one back"
-        ),
-        _ => writeln!(
-            err,
-            "{dir}/{path}: no cluster has marked it; put the folder of this one back"
-        ),
+        _ => print_fault(err, dir, nodes, node, fault),
     }
 }

@@ -32,7 +32,7 @@ pub(crate) struct Console<'x, B, F, R> {
     pub(crate) nodes: Nodes,
     pub(crate) client: u32,
     pub(crate) block: Block,
-    pub(crate) board: &'x B,
+    pub(crate) board: B,
     pub(crate) unanswered: Option<Command>,
     pub(crate) hint: Option<Hint>,
     pub(crate) has_warned: bool,
@@ -113,12 +113,12 @@ fn greatest_told(most: Option<u64>, told: &Told) -> Option<u64>
 
 // The greatest number of a client that the facts of the nodes name.
 fn greatest_used<B: Board, R: Wait>(
-    board: &B,
+    board: &mut B,
     rt: &R,
     nodes: Nodes,
     client: u32,
 ) -> Result<Option<u64>, Refusal>
-    ensures { IfOk result (HaveTold B.gave client nodes) }
+    ensures { IfOk result (HaveTold B.gives client nodes) }
 {
     let mut most = None;
     for index in 0..nodes.count() {
@@ -137,7 +137,7 @@ impl<
     F: Read + Write + Seek + FileExt + OpenFile + Drop,
     R: Files<File = F> + AllocGlobal + Wait,
 > Console<'x, B, F, R> {
-    // A request number that was never given. At the end of a block the next one is reserved.
+    // A request number that was never given. At the end of a block the next one is reserved, which begins no earlier than this one ends.
     fn next_request(&mut self) -> Result<RequestNo, Refusal>
         ensures own { IfOk result (λ q. q.client ≡ self.old.client) }
         ensures next { IfOk result (λ q. IsNext self.old.block self.new.block q.seq) }
@@ -147,14 +147,14 @@ impl<
         if let Some(seq) = self.block.take() {
             return Ok(RequestNo { client, seq });
         }
-        self.block = self.locks.reserve(self.rt, 0)?;
+        self.block = self.locks.reserve(self.rt, self.block.next())?;
         match self.block.take() {
             Some(seq) => Ok(RequestNo { client, seq }),
             None => Err(Refusal::TooLarge),
         }
     }
 
-    // Gives no number up to this one, which a node's facts name.
+    // Gives no number up to this one, which a node's facts name. None is reserved.
     fn pass_number(&mut self, used: u64) -> Result<(), Refusal>
         ensures above { OnOk result (used < self.new.block.next) }
         ensures kept { self.new.unanswered ≡ self.old.unanswered }
@@ -163,16 +163,16 @@ impl<
             return Err(Refusal::TooLarge);
         };
         if !self.block.begin_at(least) {
-            self.block = self.locks.reserve(self.rt, least)?;
+            self.block = Block::behind(least);
         }
         Ok(())
     }
 
     // Gives no number that the facts of a node name as this client's.
     fn pass_numbers(&mut self) -> Result<(), Refusal>
-        ensures behind { OnOk result (IsBehindAll B.gave self.old.client self.old.nodes self.new.block) }
+        ensures behind { OnOk result (IsBehindAll B.gives self.old.client self.old.nodes self.new.block) }
     {
-        match greatest_used(self.board, self.rt, self.nodes, self.client)? {
+        match greatest_used(&mut self.board, self.rt, self.nodes, self.client)? {
             Some(used) => self.pass_number(used),
             None => Ok(()),
         }
@@ -182,14 +182,18 @@ impl<
     fn put(&mut self, node: NodeId, command: &Command) -> Result<Outcome, Refusal>
         ensures outcome { IfOk result (λ o. is_outcome_at node o ≡ true) }
         ensures of { IfOk result (IsOf command.now.request) }
-        ensures came { IfOk result (Came B.gave (Question.Submit node command.now) command.now.request) }
+        ensures came { IfOk result (Came B.gives (Question.Submit node command.now) command.now.request) }
         ensures kept { IfOk result (λ o. IsKept command.now.op self.new.unanswered o) }
-        ensures hinted { IfOk result (λ o. IsHinted B.gave (Question.Submit node command.now) (λ t. hint_behind o t self.old.has_warned) self.new.hint) }
+        ensures hinted { IfOk result (λ o. IsHinted B.gives (Question.Submit node command.now) (λ t. hint_behind o t self.old.has_warned) self.new.hint) }
         ensures warned { OnOk result (self.new.has_warned ≡ warned_behind self.old.has_warned self.new.hint) }
     {
         made_of!(Answer, Command, Op, Name, Reply, Value);
         let command = *command;
-        let told = ask(self.board, self.rt, &Question::Submit { node, command })?;
+        let told = ask(
+            &mut self.board,
+            self.rt,
+            &Question::Submit { node, command },
+        )?;
         let outcome = outcome_in(node, command.request, &told);
         self.unanswered = kept_behind(&command, &outcome);
         let hint = hint_behind(&outcome, &told, self.has_warned);
@@ -202,12 +206,12 @@ impl<
     fn put_sync(&mut self, node: NodeId, request: RequestNo) -> Result<Outcome, Refusal>
         ensures outcome { IfOk result (λ o. is_outcome_at node o ≡ true) }
         ensures of { IfOk result (IsOf request) }
-        ensures came { IfOk result (Came B.gave (Question.Sync node request) request) }
+        ensures came { IfOk result (Came B.gives (Question.Sync node request) request) }
         ensures kept { self.new.unanswered ≡ self.old.unanswered }
-        ensures hinted { OnOk result (IsHinted B.gave (Question.Sync node request) (λ t. hint_of_room t self.old.has_warned) self.new.hint) }
+        ensures hinted { OnOk result (IsHinted B.gives (Question.Sync node request) (λ t. hint_of_room t self.old.has_warned) self.new.hint) }
         ensures warned { OnOk result (self.new.has_warned ≡ warned_behind self.old.has_warned self.new.hint) }
     {
-        let told = ask(self.board, self.rt, &Question::Sync { node, request })?;
+        let told = ask(&mut self.board, self.rt, &Question::Sync { node, request })?;
         self.hint = hint_of_room(&told, self.has_warned);
         self.has_warned = warned_behind(self.has_warned, &self.hint);
         Ok(outcome_in(node, request, &told))
@@ -229,7 +233,7 @@ impl<
     F: Read + Write + Seek + FileExt + OpenFile + Drop,
     R: Files<File = F> + AllocGlobal + Wait,
 > Asked for Console<'x, B, F, R> {
-    ghost did = { DidBy B.gave };
+    ghost did = { DidBy B.gives };
 
     ghost unanswered = { λ c. c.unanswered };
 
@@ -238,10 +242,10 @@ impl<
     ghost told = { λ c. heard_by c.ear };
 
     fn wait_until_ready(&mut self) -> Result<(), Refusal>
-        ensures waited { OnOk result (DidBy B.gave waits) }
-        ensures behind { OnOk result (IsBehindAll B.gave self.old.client self.old.nodes self.new.block) }
+        ensures waited { OnOk result (DidBy B.gives waits) }
+        ensures behind { OnOk result (IsBehindAll B.gives self.old.client self.old.nodes self.new.block) }
     {
-        wait_until_begun(self.board, self.rt)?;
+        wait_until_begun(&self.board, self.rt)?;
         self.pass_numbers()
     }
 
@@ -270,14 +274,14 @@ impl<
 
     fn look(&mut self, node: NodeId, name: &Name) -> Result<Answer, Refusal> {
         let name = *name;
-        let told = ask(self.board, self.rt, &Question::Look { node, name })?;
+        let told = ask(&mut self.board, self.rt, &Question::Look { node, name })?;
         Ok(sight_in(node, &name, &told))
     }
 
     fn list(&mut self, node: NodeId, prefix: &Option<Name>) -> Result<Listing, Refusal> {
         made_of!(Name);
         let prefix = *prefix;
-        let told = ask(self.board, self.rt, &Question::Names { node, prefix })?;
+        let told = ask(&mut self.board, self.rt, &Question::Names { node, prefix })?;
         Ok(listing_in(node, &prefix, told))
     }
 
@@ -285,7 +289,7 @@ impl<
         made_of!(Name);
         let prefix = *prefix;
         self.ear = None;
-        let told = ask(self.board, self.rt, &Question::Watch { node, prefix })?;
+        let told = ask(&mut self.board, self.rt, &Question::Watch { node, prefix })?;
         if let Told::Watching(new) = told {
             self.ear = Some(new.ear);
         }
@@ -297,7 +301,7 @@ impl<
             return Ok(None);
         };
         let node = ear.node;
-        let told = ask(self.board, self.rt, &Question::Changes { node })?;
+        let told = ask(&mut self.board, self.rt, &Question::Changes { node })?;
         if !matches!(told, Told::Changed(true)) {
             return Ok(None);
         }
@@ -313,18 +317,18 @@ impl<
     }
 
     fn stop(&mut self, node: NodeId) -> Result<(), Refusal> {
-        switch(self.board, self.rt, node, false)
+        switch(&mut self.board, self.rt, node, false)
     }
 
     fn start(&mut self, node: NodeId) -> Result<(), Refusal> {
-        switch(self.board, self.rt, node, true)
+        switch(&mut self.board, self.rt, node, true)
     }
 
     fn snapshot(&mut self, node: NodeId) -> Result<bool, Refusal> {
         if !self.board.is_on(node) {
             return Ok(false);
         }
-        let told = ask(self.board, self.rt, &Question::Snapshot { node })?;
+        let told = ask(&mut self.board, self.rt, &Question::Snapshot { node })?;
         Ok(is_written(&told))
     }
 
@@ -335,7 +339,7 @@ impl<
                 summary: None,
             });
         }
-        let told = ask(self.board, self.rt, &Question::Summary { node })?;
+        let told = ask(&mut self.board, self.rt, &Question::Summary { node })?;
         let summary = summary_in(&told);
         Ok(NodeStatus { node, summary })
     }

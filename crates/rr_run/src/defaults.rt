@@ -4,7 +4,7 @@ ghost use Rattle.std.specs.Prelude.{◌≡◌, ℕ, IfSome, Option, None, option
 ghost use Rattle.rr_run.specs.Shells.{IsNodesBy};
 
 use rr_cli::{ShellWords, nodes_of};
-use rr_disk::FileDisk;
+use rr_folders::read_only_disk;
 use rr_journal::inspect;
 use rr_shell::Prompting;
 use rr_types::Nodes;
@@ -23,7 +23,7 @@ fn nodes_told<R: Files + AllocGlobal>(rt: &R, folder: &str) -> Option<Nodes>
 where
     R::File: FileExt,
 {
-    let mut disk = FileDisk::open_read_only(rt, folder).ok()?;
+    let mut disk = read_only_disk(rt, folder).ok()?;
     match inspect(rt.alloc(), &mut disk).ok()? {
         (Some(report), _) => Some(report.nodes),
         (None, Some(report)) => Some(report.nodes),

@@ -17,7 +17,7 @@
 //!         && rt.stdout().is_terminal()
 //!         && rt.stderr().is_terminal()
 //!     {
-//!         Some(rt.stderr())
+//!         Some(Shown::new(rt.stderr()))
 //!     } else {
 //!         None
 //!     };
@@ -27,7 +27,7 @@
 //!         &mut HostFiles::new(&rt),
 //!         &mut Prompted::new(Counted::new(rt.stdin()), typing),
 //!         &mut Watched::new(Counted::new(rt.stdout()), people),
-//!         &mut rt.stderr(),
+//!         &mut Shown::new(rt.stderr()),
 //!     ))
 //! }
 //! ```
@@ -53,4 +53,4 @@ mod used;
 mod watcher;
 
 pub use program::{execute, run};
-pub use rr_folders::Lockable;
+pub use rr_folders::{Lockable, MarkWriter};

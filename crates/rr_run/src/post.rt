@@ -132,49 +132,55 @@ impl Post {
     }
 }
 
-impl Board for Post {
-    ghost gave = { any_call };
+/// A shell at a post, as its board.
+#[derive(Drop)]
+pub(crate) struct AtPost<'x> {
+    pub(crate) post: &'x Post,
+}
+
+impl Board for AtPost<'_> {
+    ghost gives = { any_call };
 
     fn is_on(&self, node: NodeId) -> bool {
-        self.switches.is_on(node)
+        self.post.switches.is_on(node)
     }
 
     fn is_up(&self, node: NodeId) -> bool {
-        self.switches.is_up(node)
+        self.post.switches.is_up(node)
     }
 
     fn are_all_up(&self) -> bool {
-        self.switches.are_all_up()
+        self.post.switches.are_all_up()
     }
 
-    fn turn_off(&self, node: NodeId) -> Cause {
-        self.switches.stop(node);
+    fn turn_off(&mut self, node: NodeId) -> Cause {
+        self.post.switches.stop(node);
         Cause { node }
     }
 
-    fn turn_on(&self, node: NodeId) {
-        self.switches.start(node);
+    fn turn_on(&mut self, node: NodeId) {
+        self.post.switches.start(node);
     }
 
-    fn leave<R: Wait>(&self, rt: &R, question: &Question) -> Cause {
-        *self.slip.lock(rt) = Slip::Asked(*question);
+    fn leave<R: Wait>(&mut self, rt: &R, question: &Question) -> Cause {
+        *self.post.slip.lock(rt) = Slip::Asked(*question);
         Cause {
             node: question.node(),
         }
     }
 
-    fn ring(&self, cause: &Cause) {
-        if let Some(bell) = self.clients.get(usize::from(cause.node.index())) {
+    fn ring(&mut self, cause: &Cause) {
+        if let Some(bell) = self.post.clients.get(usize::from(cause.node.index())) {
             bell.unpark();
         }
     }
 
     fn look_at_end(&self) -> Seen {
-        self.ending.look()
+        self.post.ending.look()
     }
 
-    fn take<R: Wait>(&self, rt: &R, _seen: &Seen) -> Option<Told> {
-        let mut slip = self.slip.lock(rt);
+    fn take<R: Wait>(&mut self, rt: &R, _seen: &Seen) -> Option<Told> {
+        let mut slip = self.post.slip.lock(rt);
         match mem::replace(&mut *slip, Slip::Nothing) {
             Slip::Answered(told) => Some(told),
             other => {
@@ -185,19 +191,22 @@ impl Board for Post {
     }
 
     fn ending(&self) -> Refusal {
-        self.ending.refusal()
+        self.post.ending.refusal()
     }
 
     fn rest<R: Wait>(&self, rt: &R) {
-        self.shell.park_timeout(rt, Duration::from_micros(REST));
+        self.post
+            .shell
+            .park_timeout(rt, Duration::from_micros(REST));
     }
 
     fn wait<R: Wait>(&self, rt: &R) {
-        self.switches.wait(rt);
+        self.post.switches.wait(rt);
     }
 
     fn linger<R: Wait>(&self, rt: &R) {
-        self.shell
+        self.post
+            .shell
             .park_timeout(rt, Duration::from_micros(WATCH_REST));
     }
 }

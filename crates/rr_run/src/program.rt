@@ -10,7 +10,7 @@ ghost use Rattle.rr_run.specs.Telling.{IsQuiet};
 use crate::script_run::run_by_words;
 use crate::shell_run::shell_by_words;
 use rr_cli::{Task, end_by_words, end_without_words, read_words};
-use rr_folders::Lockable;
+use rr_folders::{Lockable, MarkWriter};
 use rr_shell::Prompting;
 use rr_stream::{FileReader, Sink};
 use std::convert::AsStr;
@@ -39,7 +39,7 @@ use std::time::Clock;
 /// answered as asked. What goes wrong is told on `err`: the words, then the folders, ascending, then the file DIR/requests, then the run or a stream.
 pub fn execute<
     F: Read + Write + Seek + FileExt + OpenFile + Drop + Send + Lockable,
-    R: Files<File = F> + AllocGlobal + Threads + Wait + Clock + Sync,
+    R: Files<File = F> + AllocGlobal + Threads + Wait + Clock + Sync + MarkWriter,
     S: AsStr,
     L: FileReader,
     I: Prompting,
@@ -87,7 +87,7 @@ where
 /// with 2, as for a word that is no text.
 pub fn run<
     F: Read + Write + Seek + FileExt + OpenFile + Drop + Send + Lockable,
-    R: Files<File = F> + AllocGlobal + Threads + Wait + Clock + Sync,
+    R: Files<File = F> + AllocGlobal + Threads + Wait + Clock + Sync + MarkWriter,
     L: FileReader,
     I: Prompting,
     O: Sink + Send,

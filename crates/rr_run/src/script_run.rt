@@ -16,9 +16,12 @@ use crate::closed::end_by_closed;
 use crate::reused::tell_reused;
 use crate::ticking::tick_by;
 use rr_cli::{Form, end_by_refusal, end_by_stream, end_by_text, nodes_of, print_folder_fault};
-use rr_disk::{FileDisk, OpenedFile};
+use rr_disk::{Disk, FileDisk};
 use rr_explain::print_script_fault;
-use rr_folders::{Closed, Folders, Lockable, Locks, Survey, enter, survey_folders, try_folder};
+use rr_folders::{
+    Closed, Folders, Lockable, Locks, MarkWriter, Reasons, Survey, enter, read_only_disk,
+    survey_folders, try_dir, try_folder,
+};
 use rr_journal::inspect;
 use rr_stream::{FileReader, Sink, Source, read_all};
 use rr_text::{Answers, Script, Tape};
@@ -48,6 +51,7 @@ pub(crate) fn end_by_run_fault<R: Files + AllocGlobal, E: Write>(
     err: &mut E,
     dir: &str,
     nodes: Nodes,
+    reasons: &Reasons,
     refusal: &Refusal,
 ) -> u8
 where
@@ -55,10 +59,29 @@ where
     ensures { result ≡ status_of refusal.now }
 {
     let ending = end_by_refusal(err, refusal);
-    if matches!(refusal, Refusal::Device | Refusal::Damaged { .. }) {
-        let _ = print_refused_folder(rt, err, dir, nodes, refusal);
-    }
+    let _ = match refusal {
+        Refusal::Device => print_reason(rt, err, dir, nodes, reasons),
+        Refusal::Damaged { .. } => print_refused_folder(rt, err, dir, nodes, refusal),
+        _ => Ok(()),
+    };
     ending
+}
+
+// Prints why a device call failed, as it was noted; or else what is wrong in the first folder of a run.
+fn print_reason<R: Files + AllocGlobal, W: Write>(
+    rt: &R,
+    err: &mut W,
+    dir: &str,
+    nodes: Nodes,
+    reasons: &Reasons,
+) -> io::Result<()>
+where
+    R::File: FileExt,
+{
+    if reasons.print(err, dir)? {
+        return Ok(());
+    }
+    print_refused_folder(rt, err, dir, nodes, &Refusal::Device)
 }
 
 // Prints what is wrong in the first folder of a run that can't be read, or that those which can be differ.
@@ -74,8 +97,8 @@ where
 {
     for node in 0..nodes.count() {
         let path = format!(in rt.alloc(); "{dir}/{node}")?;
-        if fs::open(rt, path.as_str()).is_err() {
-            return writeln!(err, "{path}: the folder can't be made or opened");
+        if let Err(error) = fs::open(rt, path.as_str()) {
+            return writeln!(err, "{path}: opening the folder: {error}");
         }
         if let Err(refusal) = read_folder(rt, path.as_str()) {
             return print_folder_fault(rt, err, path.as_str(), &refusal);
@@ -93,10 +116,13 @@ where
             return writeln!(err, "{path}: {call}: {error}");
         }
     }
-    writeln!(
-        err,
-        "{dir}: a file in its folders couldn't be read or written"
-    )
+    match try_dir(rt, dir) {
+        Err(Closed::Failed { path, call, error }) => writeln!(err, "{path}: {call}: {error}"),
+        _ => writeln!(
+            err,
+            "{dir}: a file in its folders couldn't be read or written"
+        ),
+    }
 }
 
 // Reads both areas of the disk in a folder.
@@ -104,7 +130,7 @@ fn read_folder<R: Files + AllocGlobal>(rt: &R, folder: &str) -> Result<(), Refus
 where
     R::File: FileExt,
 {
-    let mut disk = FileDisk::open_read_only(rt, folder)?;
+    let mut disk = read_only_disk(rt, folder)?;
     let _ = inspect(rt.alloc(), &mut disk)?;
     Ok(())
 }
@@ -166,16 +192,18 @@ fn end_by_tape<R: Files + AllocGlobal, O: Sink, E: Write>(
 
 // Runs a script over the disks of folders, whose locks are held meanwhile.
 fn run_locked<
-    F: Read + Write + Seek + FileExt + OpenFile + Drop + Send,
+    F: Read + Write + Seek + FileExt + OpenFile + Drop,
+    D: Disk + Drop + Send,
     R: AllocGlobal + Threads + Wait + Clock + Sync,
 >(
     rt: &R,
     _locks: &Locks<F>,
-    disks: Vec<FileDisk<OpenedFile<F>>>,
+    disks: Vec<D>,
     script: &Script,
     recorder: Option<&Recorder>,
     tick: Duration,
 ) -> Result<Ran, Refusal>
+    requires alike { (one other : D) → D.tells one → D.tells other }
     ensures { IfOk result (λ ran. are_reused script.now.lines ran.reused.items ≡ true) }
 {
     run_script_told(rt, rt.alloc(), disks, script, &Open, recorder, tick)
@@ -184,7 +212,7 @@ fn run_locked<
 // Runs a script over folders as they were found, and prints the answers. The locks are released after the run.
 fn run_in<
     F: Read + Write + Seek + FileExt + OpenFile + Drop + Send + Lockable,
-    R: Files<File = F> + AllocGlobal + Threads + Wait + Clock + Sync,
+    R: Files<File = F> + AllocGlobal + Threads + Wait + Clock + Sync + MarkWriter,
     O: Sink,
     E: Write,
 >(
@@ -204,7 +232,11 @@ fn run_in<
         Ok(folders) => folders,
         Err(closed) => return end_by_closed(rt, err, dir, nodes, &closed),
     };
-    let Folders { locks, disks } = folders;
+    let Folders {
+        locks,
+        disks,
+        reasons,
+    } = folders;
     let ran = run_locked(rt, &locks, disks, script, None, manner.tick);
     drop(locks);
     match ran {
@@ -213,14 +245,14 @@ fn run_in<
             tell_reused(rt.alloc(), err, script.lines(), reused.as_slice());
             end_by_answers(rt.alloc(), manner.form, &answers, out, err)
         }
-        Err(refusal) => end_by_run_fault(rt, err, dir, nodes, &refusal),
+        Err(refusal) => end_by_run_fault(rt, err, dir, nodes, &reasons, &refusal),
     }
 }
 
 // Runs a script over folders that were found fresh, writes the tape to a file of this name, and prints the answers.
 fn run_taped<
     F: Read + Write + Seek + FileExt + OpenFile + Drop + Send + Lockable,
-    R: Files<File = F> + AllocGlobal + Threads + Wait + Clock + Sync,
+    R: Files<File = F> + AllocGlobal + Threads + Wait + Clock + Sync + MarkWriter,
     O: Sink,
     E: Write,
 >(
@@ -241,7 +273,11 @@ fn run_taped<
         Ok(folders) => folders,
         Err(closed) => return end_by_closed(rt, err, dir, nodes, &closed),
     };
-    let Folders { locks, disks } = folders;
+    let Folders {
+        locks,
+        disks,
+        reasons,
+    } = folders;
     let recorder = Recorder::new(rt.alloc(), nodes);
     let ran = run_locked(rt, &locks, disks, script, Some(&recorder), manner.tick);
     drop(locks);
@@ -259,14 +295,14 @@ fn run_taped<
                 err,
             )
         }
-        Err(refusal) => end_by_run_fault(rt, err, dir, nodes, &refusal),
+        Err(refusal) => end_by_run_fault(rt, err, dir, nodes, &reasons, &refusal),
     }
 }
 
 // Runs a script with a tape over folders, unless an area was found that is formatted.
 fn run_if_fresh<
     F: Read + Write + Seek + FileExt + OpenFile + Drop + Send + Lockable,
-    R: Files<File = F> + AllocGlobal + Threads + Wait + Clock + Sync,
+    R: Files<File = F> + AllocGlobal + Threads + Wait + Clock + Sync + MarkWriter,
     O: Sink,
     E: Write,
 >(
@@ -292,7 +328,7 @@ fn run_if_fresh<
 // Runs a script over the folders in the folder DIR, and prints the answers; with a tape where a file is named for it.
 fn run_over<
     F: Read + Write + Seek + FileExt + OpenFile + Drop + Send + Lockable,
-    R: Files<File = F> + AllocGlobal + Threads + Wait + Clock + Sync,
+    R: Files<File = F> + AllocGlobal + Threads + Wait + Clock + Sync + MarkWriter,
     O: Sink,
     E: Write,
 >(
@@ -321,7 +357,7 @@ fn run_over<
 // Runs the script that the bytes of this name are.
 fn run_bytes<
     F: Read + Write + Seek + FileExt + OpenFile + Drop + Send + Lockable,
-    R: Files<File = F> + AllocGlobal + Threads + Wait + Clock + Sync,
+    R: Files<File = F> + AllocGlobal + Threads + Wait + Clock + Sync + MarkWriter,
     O: Sink,
     E: Write,
 >(
@@ -347,7 +383,7 @@ fn run_bytes<
 // Runs the script that the input of this name holds.
 fn run_input<
     F: Read + Write + Seek + FileExt + OpenFile + Drop + Send + Lockable,
-    R: Files<File = F> + AllocGlobal + Threads + Wait + Clock + Sync,
+    R: Files<File = F> + AllocGlobal + Threads + Wait + Clock + Sync + MarkWriter,
     I: Source,
     O: Sink,
     E: Write,
@@ -384,7 +420,7 @@ fn run_input<
 // Runs the script in a file.
 fn run_file<
     F: Read + Write + Seek + FileExt + OpenFile + Drop + Send + Lockable,
-    R: Files<File = F> + AllocGlobal + Threads + Wait + Clock + Sync,
+    R: Files<File = F> + AllocGlobal + Threads + Wait + Clock + Sync + MarkWriter,
     L: FileReader,
     O: Sink,
     E: Write,
@@ -421,7 +457,7 @@ fn run_file<
 // Runs the script in the file that a word names, or in the input where the word is a hyphen.
 fn run_named<
     F: Read + Write + Seek + FileExt + OpenFile + Drop + Send + Lockable,
-    R: Files<File = F> + AllocGlobal + Threads + Wait + Clock + Sync,
+    R: Files<File = F> + AllocGlobal + Threads + Wait + Clock + Sync + MarkWriter,
     L: FileReader,
     I: Source,
     O: Sink,
@@ -463,7 +499,7 @@ fn run_named<
 /// through, ends with 2.
 pub(crate) fn run_by_words<
     F: Read + Write + Seek + FileExt + OpenFile + Drop + Send + Lockable,
-    R: Files<File = F> + AllocGlobal + Threads + Wait + Clock + Sync,
+    R: Files<File = F> + AllocGlobal + Threads + Wait + Clock + Sync + MarkWriter,
     L: FileReader,
     I: Source,
     O: Sink,

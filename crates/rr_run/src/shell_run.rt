@@ -12,12 +12,12 @@ use crate::beside::talk_beside;
 use crate::closed::end_by_closed;
 use crate::console::Console;
 use crate::defaults::{FOLDER, nodes_by, show_defaults};
-use crate::post::Post;
+use crate::post::{AtPost, Post};
 use crate::script_run::end_by_run_fault;
 use crate::teller::tellers;
 use crate::ticking::tick_by;
 use rr_cli::{ShellWords, end_by_refusal, end_by_stream, end_by_unprinted, number_in};
-use rr_folders::{Folders, Lockable, open_folders};
+use rr_folders::{Block, Folders, Lockable, MarkWriter, Reasons, open_folders};
 use rr_shell::{Prompting, Stop, Trouble};
 use rr_stream::{Counted, Sink};
 use rr_text::text_word::{push_byte, push_bytes};
@@ -48,6 +48,7 @@ fn end_by_talk<R: Files + AllocGlobal, E: Write>(
     err: &mut E,
     dir: &str,
     nodes: Nodes,
+    reasons: &Reasons,
     talked: Result<Option<Trouble>, Stop>,
     refusal: Option<Refusal>,
 ) -> u8
@@ -58,10 +59,10 @@ where
 {
     match talked {
         Ok(trouble) => match refusal {
-            Some(refusal) => end_by_run_fault(rt, err, dir, nodes, &refusal),
+            Some(refusal) => end_by_run_fault(rt, err, dir, nodes, reasons, &refusal),
             None => ending_status(trouble),
         },
-        Err(Stop::Refused(refusal)) => end_by_run_fault(rt, err, dir, nodes, &refusal),
+        Err(Stop::Refused(refusal)) => end_by_run_fault(rt, err, dir, nodes, reasons, &refusal),
         Err(Stop::Unread(error)) => end_by_stream(err, "standard input", &error),
         Err(Stop::Unprinted(error)) => end_by_unprinted(err, &error),
     }
@@ -70,7 +71,7 @@ where
 // Talks over folders that are open, and lets their locks go behind the talk, with the console.
 fn shell_in<
     F: Read + Write + Seek + FileExt + OpenFile + Drop + Send,
-    R: Files<File = F> + AllocGlobal + Threads + Wait + Clock + Sync,
+    R: Files<File = F> + AllocGlobal + Threads + Wait + Clock + Sync + MarkWriter,
     I: Prompting,
     O: Sink + Send,
     E: Write,
@@ -82,7 +83,7 @@ fn shell_in<
     tick: Duration,
     json: bool,
     strict: bool,
-    folders: Folders<F>,
+    folders: Folders<'_, F, R>,
     input: &mut I,
     out: &mut O,
     err: &mut E,
@@ -92,11 +93,15 @@ where
     ensures ends { EndsOnShell json strict nodes (I.reading input.old) (I.reading input.new) result (O.printing out.old) (O.printing out.new) }
     ensures quiet { result ≡ 0 → Keeps (E.contents err.old) (E.contents err.new) }
 {
-    let Folders { locks, disks } = folders;
-    let block = match locks.reserve(rt, 0) {
-        Ok(block) => block,
-        Err(refusal) => return end_by_requests(err, dir, &refusal),
-    };
+    let Folders {
+        locks,
+        disks,
+        reasons,
+    } = folders;
+    // (the first submit reserves them: a look writes nothing)
+    if let Err(refusal) = locks.see_numbers(rt) {
+        return end_by_requests(err, dir, &refusal);
+    }
     let post = match Post::new(rt.alloc(), nodes, tick) {
         Ok(post) => post,
         Err(refusal) => return end_by_refusal(err, &refusal),
@@ -110,8 +115,8 @@ where
         locks,
         nodes,
         client,
-        block,
-        board: &post,
+        block: Block::behind(0),
+        board: AtPost { post: &post },
         unanswered: None,
         hint: None,
         has_warned: false,
@@ -120,7 +125,7 @@ where
     let talked = talk_beside(
         rt, nodes, disks, clients, &post, json, strict, console, input, out,
     );
-    end_by_talk(rt, err, dir, nodes, talked, post.into_refusal())
+    end_by_talk(rt, err, dir, nodes, &reasons, talked, post.into_refusal())
 }
 
 // Ends by a file of request numbers that none can be reserved in. A second line tells it.
@@ -159,7 +164,7 @@ fn client_of(word: Option<&str>) -> Option<u32>
 // Talks over the folders in the folder DIR.
 fn shell_over<
     F: Read + Write + Seek + FileExt + OpenFile + Drop + Send + Lockable,
-    R: Files<File = F> + AllocGlobal + Threads + Wait + Clock + Sync,
+    R: Files<File = F> + AllocGlobal + Threads + Wait + Clock + Sync + MarkWriter,
     I: Prompting,
     O: Sink + Send,
     E: Write,
@@ -204,7 +209,7 @@ fn lines_text(alloc: Global, lines: &[&str]) -> Result<Vec<u8>, Refusal>
 // Talks over the folders in the folder DIR, by these lines. The input is left alone.
 fn shell_by_lines<
     F: Read + Write + Seek + FileExt + OpenFile + Drop + Send + Lockable,
-    R: Files<File = F> + AllocGlobal + Threads + Wait + Clock + Sync,
+    R: Files<File = F> + AllocGlobal + Threads + Wait + Clock + Sync + MarkWriter,
     O: Sink + Send,
     E: Write,
 >(
@@ -248,7 +253,7 @@ where
 /// the folder has, or else three. Words that are no such numbers, which the command line doesn't let through, end with 2.
 pub(crate) fn shell_by_words<
     F: Read + Write + Seek + FileExt + OpenFile + Drop + Send + Lockable,
-    R: Files<File = F> + AllocGlobal + Threads + Wait + Clock + Sync,
+    R: Files<File = F> + AllocGlobal + Threads + Wait + Clock + Sync + MarkWriter,
     I: Prompting,
     O: Sink + Send,
     E: Write,

@@ -2,7 +2,9 @@
 use Rattle.std.specs.Prelude.{ℕ, if◌then◌else◌, ◌||◌, is_some, List, [], codes, Option, None, Some, Result, Ok, Err}
 use Rattle.std.specs.Str.{bytes_eq}
 use Rattle.rr_types.specs.declared.command.OpKind.{OpKind}
-use Rattle.rr_types.specs.declared.command.OpKind.TheVariants.{Claim, Update, Release, Transfer}
+use Rattle.rr_types.specs.declared.command.Shape.{Shape}
+use Rattle.rr_types.specs.declared.command.Shape.TheVariants.{Bare, Valued, Owned}
+use Rattle.rr_types.specs.Commands.{op_shape}
 use Rattle.rr_text.specs.Reading.{cut_at, name_at, node_at, op_kind_at, op_at}
 use Rattle.rr_shell.specs.declared.shell_line.ShellLine.{ShellLine}
 use Rattle.rr_shell.specs.declared.shell_line.ShellLine.TheVariants.{Submit, Look, Names, Watch, Sync, At, Stop, Start, Snapshot, Status, Again, Help, Quit}
@@ -22,12 +24,15 @@ parts_of text = parts_from text (cut_at 32 text)
 abbrev pub named_fault : LineFault → List ℕ → LineFault
 named_fault fault rest = if is_some (name_at (parts_of rest).0) then fault else BadName
 
+-- why a line that begins as an operation which has this beside its name, with this behind its word, is none
+abbrev pub shape_fault : Shape → List ℕ → LineFault
+shape_fault Bare rest = BadName
+shape_fault Valued rest = named_fault BadValue rest
+shape_fault Owned rest = named_fault BadOwner rest
+
 -- why a line that begins as an operation of this kind, with this behind its word, is none
 abbrev pub op_fault : Option OpKind → List ℕ → LineFault
-op_fault (Some Claim) rest = named_fault BadValue rest
-op_fault (Some Update) rest = named_fault BadValue rest
-op_fault (Some Release) rest = BadName
-op_fault (Some Transfer) rest = named_fault BadOwner rest
+op_fault (Some k) rest = shape_fault (op_shape k) rest
 op_fault None rest = NoCommand
 
 -- what a line asks for that wants something, where that is there

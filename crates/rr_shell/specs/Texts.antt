@@ -1,8 +1,9 @@
 -- What is said to a line of a shell.
-use Rattle.std.specs.Prelude.{ℕ, ◌-◌, ◌/◌, nat_le, Bool, List, [], ◌∷◌, ◌++◌, length, Option, None, Some, codes, decimal}
+use Rattle.std.specs.Prelude.{ℕ, ◌-◌, ◌/◌, nat_le, Bool, List, [], ◌∷◌, ◌++◌, length, map, Option, None, Some, codes, decimal}
 use Rattle.std.specs.List.{flat_map}
 use Rattle.rr_text.specs.Words.{spaced, value_words, op_words, set_text}
 use Rattle.rr_text.specs.ReportTexts.{reply_words, request_text}
+use Rattle.rr_types.specs.Commands.{listed, op_form, op_word, op_kinds}
 use Rattle.rr_types.specs.Limits.{instance_count}
 use Rattle.rr_types.specs.declared.command.Command.{Command}
 use Rattle.rr_types.specs.declared.command.RequestNo.{RequestNo}
@@ -139,7 +140,8 @@ status_line s = spaced (codes "node" ∷ decimal s.node ∷ summary_words s.summ
 -- the commands
 abbrev pub help_text : List ℕ
 help_text =
-    codes "claim NAME [VALUE], update NAME [VALUE], release NAME, transfer NAME OWNER, look NAME, list [PREFIX], watch [PREFIX], sync, at NODE, stop NODE, start NODE, snapshot NODE, status, again, help, quit or exit"
+    listed (map op_form op_kinds)
+    ++ codes ", look NAME, list [PREFIX], watch [PREFIX], sync, at NODE, stop NODE, start NODE, snapshot NODE, status, again, help, quit or exit"
 
 -- the line that names them
 abbrev pub help_line : List ℕ
@@ -149,10 +151,13 @@ help_line = help_text ++ 10 ∷ []
 abbrev pub no_node_text : ℕ → List ℕ
 no_node_text n = codes "no such node: a number is expected that is below" ++ 32 ∷ decimal n
 
+-- that a line is no command, and which ones there are
+abbrev pub no_command_text : List ℕ
+no_command_text = codes "no such command: " ++ listed (map op_word op_kinds) ++ codes ", look, list, watch, sync, at, stop, start, snapshot, status, again, help, quit or exit is expected"
+
 -- what is wrong with a line, and what is expected, of n nodes
 abbrev pub fault_text : ℕ → LineFault → List ℕ
-fault_text n NoCommand =
-    codes "no such command: claim, update, release, transfer, look, list, watch, sync, at, stop, start, snapshot, status, again, help, quit or exit is expected"
+fault_text n NoCommand = no_command_text
 fault_text n BadName = codes "no name: 1 to 64 bytes of a to z, 0 to 9 and - are expected"
 fault_text n BadValue = codes "no value: 1 to 64 bytes from ! to ~ are expected, and no space"
 fault_text n BadOwner = codes "no owner: a number below 4294967296 is expected"

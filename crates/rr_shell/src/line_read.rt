@@ -1,11 +1,11 @@
 //! Reading a line of a shell.
 
 ghost use Rattle.std.specs.Prelude.{◌≡◌};
-ghost use Rattle.rr_shell.specs.Lines.{parts_of, named_fault, op_fault, look_at, list_at, watch_at, move_at, stop_at, start_at, snapshot_at, command_at, control_from, shell_line_at};
+ghost use Rattle.rr_shell.specs.Lines.{parts_of, named_fault, shape_fault, op_fault, look_at, list_at, watch_at, move_at, stop_at, start_at, snapshot_at, command_at, control_from, shell_line_at};
 
 use crate::shell_line::{LineFault, ShellLine};
-use rr_text::text_read::{cut, name, node, op, op_kind};
-use rr_types::{Name, NodeId, Nodes, Op, OpKind, Value, made_of};
+use rr_text::text_read::{cut, name, node, op};
+use rr_types::{Name, NodeId, Nodes, Op, OpKind, Shape, Value, made_of};
 
 // The first word of a text, and what stands behind it. A word alone has nothing behind it.
 fn parts(text: &[u8]) -> (&[u8], &[u8])
@@ -29,14 +29,23 @@ fn named_fault(fault: LineFault, rest: &[u8]) -> LineFault
     }
 }
 
+// Why a line that begins as an operation which has this beside its name, with this behind its word, is none.
+fn shape_fault(shape: Shape, rest: &[u8]) -> LineFault
+    ensures { result ≡ shape_fault shape rest.now }
+{
+    match shape {
+        Shape::Bare => LineFault::BadName,
+        Shape::Valued => named_fault(LineFault::BadValue, rest),
+        Shape::Owned => named_fault(LineFault::BadOwner, rest),
+    }
+}
+
 // Why a line that begins as an operation of this kind, with this behind its word, is none.
 fn op_fault(kind: Option<OpKind>, rest: &[u8]) -> LineFault
     ensures { result ≡ op_fault kind rest.now }
 {
     match kind {
-        Some(OpKind::Claim | OpKind::Update) => named_fault(LineFault::BadValue, rest),
-        Some(OpKind::Transfer) => named_fault(LineFault::BadOwner, rest),
-        Some(OpKind::Release) => LineFault::BadName,
+        Some(kind) => shape_fault(kind.shape(), rest),
         None => LineFault::NoCommand,
     }
 }
@@ -100,7 +109,7 @@ fn command(text: &[u8], word: &[u8], rest: &[u8]) -> Result<ShellLine, LineFault
 {
     match op(text) {
         Some(op) => Ok(ShellLine::Submit(op)),
-        None => Err(op_fault(op_kind(word), rest)),
+        None => Err(op_fault(OpKind::of_word(word), rest)),
     }
 }
 

@@ -3,39 +3,20 @@
 ghost use Rattle.std.specs.Prelude.{◌≡◌, ◌∷◌, ◌++◌, OnOk, decimal};
 ghost use Rattle.std.specs.List.{flat_map};
 ghost use Rattle.rr_text.specs.Words.{spaced};
-ghost use Rattle.rr_text.specs.ReportTexts.{reply_words};
-ghost use Rattle.rr_shell.specs.Texts.{bound_words, answer_words, answer_line, bound_line, list_lines, watching_line, changed_line, freed_line, late_text, late_line, synced_line, move_line, stop_line, start_line, snapshot_line, node_text, no_snapshot_text, no_snapshot_line, down_text, down_line, counts_words, summary_words, status_line, help_text, help_line, no_node_text, fault_text, fault_line};
+ghost use Rattle.rr_shell.specs.Texts.{bound_words, answer_words, answer_line, bound_line, list_lines, watching_line, changed_line, freed_line, late_text, late_line, synced_line, move_line, stop_line, start_line, snapshot_line, node_text, no_snapshot_text, no_snapshot_line, down_text, down_line, counts_words, summary_words, status_line, help_text, help_line, no_node_text, no_command_text, fault_text, fault_line};
 
 use crate::listing::Listing;
 use crate::shell_line::{LineFault, MAX_LINE};
 use crate::status::{NodeStatus, left_behind};
 use rr_text::Answer;
 use rr_text::text_word::{
-    push_byte, push_bytes, push_number, push_number_word, push_set, push_word,
+    push_byte, push_bytes, push_number, push_number_word, push_reply, push_set, push_word,
 };
-use rr_types::{Binding, Name, NodeId, NodeSummary, Nodes, Reply, Value};
+use rr_types::{Binding, Name, NodeId, NodeSummary, Nodes, OpKind, Value};
 use std::alloc::AllocError;
 
 // The text of too long a line names the most bytes.
 const _: () = prove!(MAX_LINE == 4096);
-
-fn push_reply(out: &mut Vec<u8>, reply: Reply) -> Result<(), AllocError>
-    ensures ok { OnOk result (out.new.items ≡ out.old.items ++ spaced (reply_words reply)) }
-{
-    match reply {
-        Reply::Claimed => push_bytes(out, b"claimed"),
-        Reply::Updated => push_bytes(out, b"updated"),
-        Reply::Released => push_bytes(out, b"released"),
-        Reply::Transferred => push_bytes(out, b"transferred"),
-        Reply::Taken(owner) => {
-            push_bytes(out, b"taken")?;
-            push_number_word(out, u64::from(owner))
-        }
-        Reply::Unknown => push_bytes(out, b"unknown"),
-        Reply::NotOwner => push_bytes(out, b"notowner"),
-        Reply::Full => push_bytes(out, b"full"),
-    }
-}
 
 // Who has a name, and its value. The empty value is no word.
 fn push_bound(out: &mut Vec<u8>, name: &Name, owner: u32, value: &Value) -> Result<(), AllocError>
@@ -322,9 +303,10 @@ pub fn push_status(out: &mut Vec<u8>, status: &NodeStatus) -> Result<(), AllocEr
 pub(crate) fn push_help_text(out: &mut Vec<u8>) -> Result<(), AllocError>
     ensures ok { OnOk result (out.new.items ≡ out.old.items ++ help_text) }
 {
+    push_bytes(out, OpKind::forms().as_bytes())?;
     push_bytes(
         out,
-        b"claim NAME [VALUE], update NAME [VALUE], release NAME, transfer NAME OWNER, look NAME, list [PREFIX], watch [PREFIX], sync, at NODE, stop NODE, start NODE, snapshot NODE, status, again, help, quit or exit",
+        b", look NAME, list [PREFIX], watch [PREFIX], sync, at NODE, stop NODE, start NODE, snapshot NODE, status, again, help, quit or exit",
     )
 }
 
@@ -346,6 +328,17 @@ fn push_no_node(out: &mut Vec<u8>, nodes: Nodes) -> Result<(), AllocError>
     push_number_word(out, u64::from(nodes.count()))
 }
 
+fn push_no_command(out: &mut Vec<u8>) -> Result<(), AllocError>
+    ensures ok { OnOk result (out.new.items ≡ out.old.items ++ no_command_text) }
+{
+    push_bytes(out, b"no such command: ")?;
+    push_bytes(out, OpKind::words().as_bytes())?;
+    push_bytes(
+        out,
+        b", look, list, watch, sync, at, stop, start, snapshot, status, again, help, quit or exit is expected",
+    )
+}
+
 /// Appends what is wrong with a line, and what is expected.
 pub(crate) fn push_fault_text(
     out: &mut Vec<u8>,
@@ -355,10 +348,7 @@ pub(crate) fn push_fault_text(
     ensures ok { OnOk result (out.new.items ≡ out.old.items ++ fault_text nodes fault) }
 {
     match fault {
-        LineFault::NoCommand => push_bytes(
-            out,
-            b"no such command: claim, update, release, transfer, look, list, watch, sync, at, stop, start, snapshot, status, again, help, quit or exit is expected",
-        ),
+        LineFault::NoCommand => push_no_command(out),
         LineFault::BadName => push_bytes(
             out,
             b"no name: 1 to 64 bytes of a to z, 0 to 9 and - are expected",

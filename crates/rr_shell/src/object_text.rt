@@ -2,7 +2,7 @@
 
 ghost use Rattle.std.specs.Prelude.{◌≡◌, ◌∷◌, ◌++◌, [], OnOk, codes};
 ghost use Rattle.std.specs.List.{flat_map};
-ghost use Rattle.rr_text.specs.ReportTexts.{reply_words};
+ghost use Rattle.rr_text.specs.ReportTexts.{owner_words, reply_words};
 ghost use Rattle.rr_shell.specs.Texts.{down_text, no_snapshot_text, help_text, fault_text, used_text, full_text, nothing_text, late_text, left_behind};
 ghost use Rattle.rr_json.specs.Json.{escaped_byte, label, text_member, number_member, opened, object_line};
 ghost use Rattle.rr_shell.specs.Objects.{reply_members, bound_members, bound_object, answer_object, synced_object, binding_object, list_objects, watching_object, changed_object, freed_object, node_object, summary_members, status_object, text_opened, text_closed, text_object};
@@ -23,23 +23,22 @@ use rr_text::text_word::{push_byte, push_bytes};
 use rr_types::{Binding, Command, Name, NodeId, NodeSummary, Nodes, Reply, Value};
 use std::alloc::{AllocError, Global};
 
+// The word of a reply, and the owner that is named in it.
 #[tactic(auto, unfolding(rr_json::specs::Json::number_member))]
+fn push_owned_member(out: &mut Vec<u8>, word: &[u8], owner: Option<u32>) -> Result<(), AllocError>
+    ensures ok { OnOk result (out.new.items ≡ out.old.items ++ reply_members (word.now ∷ owner_words owner)) }
+{
+    push_text_member(out, b"reply", word)?;
+    match owner {
+        None => Ok(()),
+        Some(owner) => push_number_member(out, b"owner", u64::from(owner)),
+    }
+}
+
 fn push_reply_members(out: &mut Vec<u8>, reply: Reply) -> Result<(), AllocError>
     ensures ok { OnOk result (out.new.items ≡ out.old.items ++ reply_members (reply_words reply)) }
 {
-    match reply {
-        Reply::Claimed => push_text_member(out, b"reply", b"claimed"),
-        Reply::Updated => push_text_member(out, b"reply", b"updated"),
-        Reply::Released => push_text_member(out, b"reply", b"released"),
-        Reply::Transferred => push_text_member(out, b"reply", b"transferred"),
-        Reply::Taken(owner) => {
-            push_text_member(out, b"reply", b"taken")?;
-            push_number_member(out, b"owner", u64::from(owner))
-        }
-        Reply::Unknown => push_text_member(out, b"reply", b"unknown"),
-        Reply::NotOwner => push_text_member(out, b"reply", b"notowner"),
-        Reply::Full => push_text_member(out, b"reply", b"full"),
-    }
+    push_owned_member(out, reply.kind().word().as_bytes(), reply.owner())
 }
 
 fn push_reply(out: &mut Vec<u8>, reply: Reply) -> Result<(), AllocError>

@@ -1,19 +1,16 @@
 -- The tests for equal facts pass exactly for equal ones.
 use Rattle.std.proofs.Common.{◌≡◌, ◌<◌, ◌≤◌, ◌+◌, ℕ, arith, Bool, true, false, ◌&&◌, ◌==◌, eqb, ap, sym, ◌∙◌, refl, List, [], ◌∷◌, length, get_or, drop, IsTrue}
-use Rattle.std.specs.Str.{bytes_eq}
-use Rattle.std.proofs.lemmas.Slice.Eq.{bytes_eq-Decides}
 use Rattle.std.proofs.lemmas.List.{drop_more, drop_all}
 use Rattle.std.proofs.lemmas.Bool.{eqb-true, eq-eqb, false≢true}
 use Rattle.std.proofs.lemmas.Grind.{common_steps}
 use Rattle.rr_types.specs.declared.command.RequestNo.{RequestNo}
-use Rattle.rr_types.specs.declared.command.Op.{Op}
-use Rattle.rr_types.specs.declared.command.Op.TheVariants.{Claim, Update, Release, Transfer}
 use Rattle.rr_types.specs.declared.command.Command.{Command}
 use Rattle.rr_types.specs.declared.fact.Fact.{Fact}
 use Rattle.rr_types.specs.declared.fact.Fact.TheVariants.{Enter, Propose, Adopt, Decide}
 use Rattle.rr_types.specs.Registry.{is_same_request}
-use Rattle.rr_types.specs.Commands.{is_same_op, is_same_command}
+use Rattle.rr_types.specs.Commands.{is_same_command}
 use Rattle.rr_types.specs.Rounds.{Estimated}
+use Rattle.rr_model.proofs.SameCommands.{same_request, same_command, command_same as command_is_same}
 use Rattle.rr_state.specs.Same.{is_same_estimate, is_same_fact, are_same_facts}
 
 -- both of two tests pass
@@ -32,59 +29,16 @@ both a b h k = rw (h, k) refl
 itself : (n : ℕ) → (n == n) ≡ true
 itself n = eq-eqb n n refl
 
--- bytes
-bytes_are : (a b : List ℕ) → bytes_eq a b ≡ true → a ≡ b
-bytes_are a b h = (bytes_eq-Decides a b).0 h
-
-bytes_same : (a : List ℕ) → bytes_eq a a ≡ true
-bytes_same a = (bytes_eq-Decides a a).1 refl
-
 -- request numbers
 pub request_is : (p q : RequestNo) → is_same_request p q ≡ true → p ≡ q
-request_is p q h =
-    let c : p.client ≡ q.client = eqb-true _ _ (and_left _ _ h) in
-    let s : p.seq ≡ q.seq = eqb-true _ _ (and_right _ _ h) in
-    let make : ℕ → ℕ → RequestNo = (λ c s. record { client = c; seq = s }) in
-    ap (λ (n : ℕ). make n p.seq) c ∙ ap (λ (n : ℕ). make q.client n) s
-
-request_same : (p : RequestNo) → is_same_request p p ≡ true
-request_same p = both _ _ (itself p.client) (itself p.seq)
-
--- operations
-op_is : (a b : Op) → is_same_op a b ≡ true → a ≡ b
-op_is (Claim m v) (Claim n w) h = let e : m ≡ n = bytes_are m n (and_left _ _ h) in let f : v ≡ w = bytes_are v w (and_right _ _ h) in cc
-op_is (Claim m v) (Update n w) h = absurd (false≢true h)
-op_is (Claim m v) (Release n) h = absurd (false≢true h)
-op_is (Claim m v) (Transfer n w) h = absurd (false≢true h)
-op_is (Update m v) (Claim n w) h = absurd (false≢true h)
-op_is (Update m v) (Update n w) h = let e : m ≡ n = bytes_are m n (and_left _ _ h) in let f : v ≡ w = bytes_are v w (and_right _ _ h) in cc
-op_is (Update m v) (Release n) h = absurd (false≢true h)
-op_is (Update m v) (Transfer n w) h = absurd (false≢true h)
-op_is (Release m) (Claim n w) h = absurd (false≢true h)
-op_is (Release m) (Update n w) h = absurd (false≢true h)
-op_is (Release m) (Release n) h = let e : m ≡ n = bytes_are m n h in cc
-op_is (Release m) (Transfer n w) h = absurd (false≢true h)
-op_is (Transfer m o) (Claim n w) h = absurd (false≢true h)
-op_is (Transfer m o) (Update n w) h = absurd (false≢true h)
-op_is (Transfer m o) (Release n) h = absurd (false≢true h)
-op_is (Transfer m o) (Transfer n w) h = let e : m ≡ n = bytes_are m n (and_left _ _ h) in let f : o ≡ w = eqb-true _ _ (and_right _ _ h) in cc
-
-op_same : (a : Op) → is_same_op a a ≡ true
-op_same (Claim m v) = both _ _ (bytes_same m) (bytes_same v)
-op_same (Update m v) = both _ _ (bytes_same m) (bytes_same v)
-op_same (Release m) = bytes_same m
-op_same (Transfer m o) = both _ _ (bytes_same m) (itself o)
+request_is p q h = same_request p q h
 
 -- commands
 pub command_is : (c d : Command) → is_same_command c d ≡ true → c ≡ d
-command_is c d h =
-    let r : c.request ≡ d.request = request_is _ _ (and_left _ _ h) in
-    let o : c.op ≡ d.op = op_is _ _ (and_right _ _ h) in
-    let make : RequestNo → Op → Command = (λ r o. record { request = r; op = o }) in
-    ap (λ (r : RequestNo). make r c.op) r ∙ ap (λ (o : Op). make d.request o) o
+command_is c d h = same_command c d h
 
 pub command_same : (c : Command) → is_same_command c c ≡ true
-command_same c = both _ _ (request_same c.request) (op_same c.op)
+command_same c = command_is_same c
 
 -- estimates
 estimate_is : (e f : Estimated) → is_same_estimate e f ≡ true → e ≡ f

@@ -6,7 +6,9 @@ use Rattle.std.proofs.lemmas.List.{append_assoc}
 use Rattle.std.proofs.lemmas.Fmt.{decimal_digit}
 use Rattle.rr_types.specs.Names.{IsName, IsValue}
 use Rattle.rr_types.specs.declared.command.Op.{Op}
-use Rattle.rr_types.specs.declared.command.Op.TheVariants as ops
+use Rattle.rr_types.specs.declared.command.Operand.{Operand}
+use Rattle.rr_types.specs.declared.command.Operand.TheVariants.{Nothing, Value, Owner}
+use Rattle.rr_types.specs.Commands.{op_word, op_kind, op_name, op_operand}
 use Rattle.rr_types.specs.declared.command.Command.{Command}
 use Rattle.rr_types.specs.declared.input.Input.TheVariants as input
 use Rattle.rr_types.specs.declared.event.NodeEvent.{NodeEvent}
@@ -16,7 +18,7 @@ use Rattle.rr_text.specs.declared.event.Happening.{Happening}
 use Rattle.rr_text.specs.declared.event.Happening.TheVariants as happening
 use Rattle.rr_text.specs.declared.kind.EventKind.{EventKind}
 use Rattle.rr_text.specs.declared.kind.EventKind.TheVariants.{Submit, Hear, Suspect, Tick, Advance, Take, Device, Fail, Mark, Send, Ack, Snap, Crash, Restart}
-use Rattle.rr_text.specs.Words.{spaced, value_words, op_words, set_text, fill_text, IsOp, IsCommand, IsFill}
+use Rattle.rr_text.specs.Words.{spaced, value_words, operand_words, op_words, set_text, fill_text, IsOperand, IsOp, IsCommand, IsFill}
 use Rattle.rr_text.specs.Scheduled.{IsInRange, IsEvent}
 use Rattle.rr_text.specs.ScheduleTexts.{field_words, event_text, event_line}
 use Rattle.rr_text.specs.Reading.{◌>>=◌, cut_at, node_at, small_at, set_at, fill_at, submitted_at, keyword_text, keyword_at, first_node_at, cuts_at, plain_at, about_at, said_at, fields_at, event_at}
@@ -24,7 +26,7 @@ use Rattle.rr_text.specs.Events.{event_of, kind_at_node, kind_of}
 use Rattle.rr_text.proofs.CutLemmas.{AtLeast, AtLeast-append, bind_some, cut_again, cut_takes, plain_by_test}
 use Rattle.rr_text.proofs.NumberLemmas.{node_again, node_takes, small_again, small_takes, decimal_plain}
 use Rattle.rr_text.proofs.WordReading.{AtLeast-weaken, name_plain, value_plain, set_again, set_takes, set_plain, fill_again, fill_takes, fill_plain}
-use Rattle.rr_text.proofs.OpReading.{find_takes, submitted_text, submitted_again, submitted_takes}
+use Rattle.rr_text.proofs.OpReading.{find_takes, word_plain, submitted_text, submitted_again, submitted_takes}
 
 pub keyword_takes : (w : List ℕ) (k : EventKind) → keyword_at w ≡ Some k → w ≡ keyword_text k
 keyword_takes w k e = find_takes keyword_text w (Submit ∷ Hear ∷ Suspect ∷ Tick ∷ Advance ∷ Take ∷ Device ∷ Fail ∷ Mark ∷ Send ∷ Ack ∷ Snap ∷ Crash ∷ Restart ∷ []) k e
@@ -186,10 +188,7 @@ about n k text read print Fits make what takes kinds prints fits given =
     }
 
 pub spaced_op : (w : List ℕ) (op : Op) → spaced (w ∷ op_words op) ≡ w ++ 32 ∷ spaced (op_words op)
-spaced_op w (ops.Claim x v) = refl
-spaced_op w (ops.Update x v) = refl
-spaced_op w (ops.Release x) = refl
-spaced_op w (ops.Transfer x o) = refl
+spaced_op w op = refl
 
 submit_words : (c : Command) (w : List ℕ) → spaced (w ∷ field_words (happening.At (node.Told (input.Submit c)))) ≡ w ++ 32 ∷ submitted_text c
 submit_words c w = ap (λ (y : List ℕ). w ++ 32 ∷ (decimal c.request.client ++ 32 ∷ y)) (spaced_op (decimal c.request.seq) c.op)
@@ -250,11 +249,13 @@ named_plain : (x v : List ℕ) → IsName x → IsValue v → AtLeast 32 (spaced
 named_plain x [] name value = low x (name_plain x name)
 named_plain x (b ∷ v) name value = joined x (b ∷ v) (name_plain x name) (low (b ∷ v) (value_plain (b ∷ v) value))
 
+behind_plain : (x : List ℕ) (o : Operand) → IsName x → IsOperand o → AtLeast 32 (spaced (x ∷ operand_words o))
+behind_plain x Nothing name h = low x (name_plain x name)
+behind_plain x (Value v) name h = named_plain x v name h
+behind_plain x (Owner p) name h = joined x (decimal p) (name_plain x name) (low (decimal p) (decimal_plain p (omega (arith, h))))
+
 pub op_plain : (op : Op) → IsOp op → AtLeast 32 (spaced (op_words op))
-op_plain (ops.Claim x v) h = joined (codes "claim") (spaced (x ∷ value_words v)) (plain_by_test (codes "claim") refl) (named_plain x v h.0 h.1)
-op_plain (ops.Update x v) h = joined (codes "update") (spaced (x ∷ value_words v)) (plain_by_test (codes "update") refl) (named_plain x v h.0 h.1)
-op_plain (ops.Release x) h = joined (codes "release") x (plain_by_test (codes "release") refl) (low x (name_plain x h))
-op_plain (ops.Transfer x o) h = joined (codes "transfer") (x ++ 32 ∷ decimal o) (plain_by_test (codes "transfer") refl) (joined x (decimal o) (name_plain x h.0) (low (decimal o) (decimal_plain o (omega (arith, h.1)))))
+op_plain op h = joined (op_word (op_kind op)) (spaced (op_name op ∷ operand_words (op_operand op))) (word_plain (op_kind op)) (behind_plain (op_name op) (op_operand op) h.0 h.1)
 
 submitted_plain : (c : Command) → IsCommand c → AtLeast 32 (submitted_text c)
 submitted_plain c h =

@@ -2,7 +2,8 @@
 use Rattle.std.proofs.Common.{◌≡◌, ℕ, ◌<◌, ◌≤◌, false, List, [], ◌∷◌, length, codes, refl, ap, arith}
 use Rattle.std.specs.Str.{bytes_eq}
 use Rattle.rr_text.specs.declared.kind.EventKind.TheVariants.{Submit, Hear, Suspect, Tick, Advance, Take, Device, Fail, Mark, Send, Ack, Snap, Crash, Restart}
-use Rattle.rr_text.specs.Reading.{find_by, keyword_text, keyword_at}
+use Rattle.rr_types.specs.Commands.{find_by}
+use Rattle.rr_text.specs.Reading.{keyword_text, keyword_at}
 use Rattle.rr_text.proofs.WordReading.{other_text}
 
 -- words of two lengths are two

@@ -1,28 +1,30 @@
 -- Messages and replies: what is read is printed so, and what is printed is read again.
-use Rattle.std.proofs.Common.{◌≡◌, ℕ, ◌^◌, ◌<◌, ◌≤◌, false, cond, ltb, leb, ◌&&◌, List, [], ◌∷◌, ◌++◌, Option, None, Some, codes, decimal, refl, ap, subst, ◌∙◌, sym, arith, inl, inr}
-use Rattle.std.specs.List.{AllByRecursion}
+use Rattle.std.proofs.Common.{◌≡◌, ℕ, ◌^◌, ◌<◌, ◌≤◌, false, cond, ltb, leb, ◌&&◌, List, [], ◌∷◌, ◌++◌, Option, None, Some, codes, decimal, refl, ap, subst, ◌∙◌, sym, arith}
+use Rattle.std.specs.Prelude.{IfSome}
 use Rattle.std.specs.Str.{bytes_eq}
 use Rattle.std.proofs.lemmas.Option.{same_Some, cond_some}
 use Rattle.std.proofs.lemmas.Bool.{and_parts, leb-true, ltb-true, le-leb, lt-ltb}
 use Rattle.rr_types.specs.declared.command.RequestNo.{RequestNo}
 use Rattle.rr_types.specs.declared.command.Reply.{Reply}
-use Rattle.rr_types.specs.declared.command.Reply.TheVariants as replies
+use Rattle.rr_types.specs.declared.command.ReplyKind.{ReplyKind}
+use Rattle.rr_types.specs.Commands.{reply_kinds, reply_word, reply_kind, reply_owner, reply_with}
+use Rattle.rr_types.proofs.PartLemmas.{reply_again as reply_of_parts, parts_of_made, reply_word_again, reply_word_is_plain}
 use Rattle.rr_types.specs.declared.message.Body.{Body}
 use Rattle.rr_types.specs.declared.message.Body.TheVariants as bodies
 use Rattle.rr_types.specs.Rounds.{Estimated}
 use Rattle.rr_text.specs.Words.{spaced, op_words, set_text, IsOp, IsCommand}
-use Rattle.rr_text.specs.ReportTexts.{request_text, command_words, body_words, message_words, reply_words}
-use Rattle.rr_text.specs.Reading.{◌>>=◌, cut_at, find_by, small_at, number_at, op_at, message_kind_at}
-use Rattle.rr_text.proofs.CutLemmas.{AtLeast, AtLeast-append, bind_some, cut_again, cut_takes, plain_by_test}
+use Rattle.rr_text.specs.ReportTexts.{request_text, command_words, body_words, message_words, owner_words, reply_words}
+use Rattle.rr_text.specs.Reading.{◌>>=◌, cut_at, small_at, number_at, op_at, message_kind_at}
+use Rattle.rr_text.proofs.CutLemmas.{AtLeast, AtLeast-append, bind_some, cut_again, cut_takes, cut_nowhere, plain_by_test}
 use Rattle.rr_text.proofs.NumberLemmas.{number_again, number_takes, small_again, small_takes, decimal_plain, decimal_high}
-use Rattle.rr_text.proofs.WordReading.{chosen, same_text, other_text}
+use Rattle.rr_text.proofs.WordReading.{same_text, other_text}
 use Rattle.rr_text.proofs.OpReading.{find_takes, op_again, op_takes}
 use Rattle.rr_text.proofs.EventReading.{joined, low, spaced_op, op_plain}
 use Rattle.rr_types.specs.declared.message.MessageKind.{MessageKind}
 use Rattle.rr_types.specs.declared.message.MessageKind.TheVariants.{Estimate, Proposal, Ack, Decision, Request, Nack, Beat, Suspects, Ask}
 use Rattle.rr_types.specs.Messages.{message_word}
 use Rattle.rr_text.specs.Taped.{IsInstance, IsRound, IsEstimate, IsBody, IsMessage, IsRequest, IsReply}
-use Rattle.rr_text.specs.TapeReading.{instance_at, round_at, request_at, both_at, command_at, estimate_from, estimate_at, estimated_at, proposed_at, round_of_at, decided_at, body_fields_at, body_from, body_at, message_at, reply_from, reply_at}
+use Rattle.rr_text.specs.TapeReading.{instance_at, round_at, request_at, both_at, command_at, estimate_from, estimate_at, estimated_at, proposed_at, round_of_at, decided_at, body_fields_at, body_from, body_at, message_at, reply_kind_at, reply_from, reply_at}
 use Rattle.rr_text.proofs.Readers.{IsReader, as_text, made, taken_as, beside, small_word, set_word, node_word}
 
 -- ---- words
@@ -232,56 +234,44 @@ message_text n few =
 abbrev reply_text : Reply → List ℕ
 reply_text r = spaced (reply_words r)
 
-find_fits : {K : Type 0} (Fits : K → Type 0) (text : K → List ℕ) (w : List ℕ) (ks : List K) (k : K) → AllByRecursion Fits ks → find_by text w ks ≡ Some k → Fits k
-find_fits Fits text w [] k each e = absurd cc
-find_fits Fits text w (j ∷ ks) k each e =
-    elim (chosen (bytes_eq w (text j)) (Some j) (find_by text w ks) (Some k) e) [
-      | inl c ↦ subst Fits (same_Some j k c.1) each.0
-      | inr c ↦ find_fits Fits text w ks k each.1 c.1
-    ]
-
-abbrev plain_replies : List Reply
-plain_replies = replies.Claimed ∷ replies.Updated ∷ replies.Released ∷ replies.Transferred ∷ replies.Unknown ∷ replies.NotOwner ∷ replies.Full ∷ []
+plain_word : (k : ReplyKind) → AtLeast 33 (reply_word k)
+plain_word k = plain_by_test (reply_word k) (reply_word_is_plain k)
 
 reply_from_takes : (t : List ℕ) (o : Option (List ℕ × List ℕ)) (r : Reply) → cut_at 32 t ≡ o → reply_from t o ≡ Some r → (reply_text r ≡ t) × IsReply r
-reply_from_takes t None r cut e = (sym (find_takes reply_text t plain_replies r e), find_fits IsReply reply_text t plain_replies r (tt, (tt, (tt, (tt, (tt, (tt, (tt, tt))))))) e)
+reply_from_takes t None r cut e =
+    let k = bind_some (reply_kind_at t) (λ k. reply_with k None) r e in
+    let word : t ≡ reply_word k.0 = find_takes reply_word t reply_kinds k.0 k.1 in
+    let parts = parts_of_made k.0 None r k.2 in
+    let words : reply_words r ≡ reply_word k.0 ∷ [] = rw (parts.0, parts.1) refl in
+    (ap spaced words ∙ sym word, rw parts.1 tt)
 reply_from_takes t (Some w) r cut e =
-    elim (chosen (bytes_eq w.0 (codes "taken")) (small_at w.1 >>= λ o. Some (replies.Taken o)) None (Some r) e) [
-      | inl c ↦
-          let u = taken_as small_word (λ o. replies.Taken o) reply_text IsReply (codes "taken") (λ o. refl) (λ o h. h) w.1 r c.1 in
-          (u.0 ∙ ap (λ (v : List ℕ). v ++ 32 ∷ w.1) (sym (same_text w.0 (codes "taken") c.0)) ∙ sym (cut_takes 32 t w.0 w.1 cut), u.1)
-      | inr c ↦ absurd (let e : None ≡ Some r = c.1 in cc)
-    ]
+    let k = bind_some (reply_kind_at w.0) (λ k. small_at w.1 >>= λ o. reply_with k (Some o)) r e in
+    let o = bind_some (small_at w.1) (λ o. reply_with k.0 (Some o)) r k.2 in
+    let word : w.0 ≡ reply_word k.0 = find_takes reply_word w.0 reply_kinds k.0 k.1 in
+    let u = small_takes w.1 o.0 o.1 in
+    let parts = parts_of_made k.0 (Some o.0) r o.2 in
+    let is : reply_word k.0 ++ 32 ∷ decimal o.0 ≡ t = ap (λ (v : List ℕ). v ++ 32 ∷ decimal o.0) (sym word) ∙ ap (λ (v : List ℕ). w.0 ++ 32 ∷ v) u.0 ∙ sym (cut_takes 32 t w.0 w.1 cut) in
+    let words : reply_words r ≡ reply_word k.0 ∷ decimal o.0 ∷ [] = rw (parts.0, parts.1) refl in
+    (ap spaced words ∙ is, rw parts.1 u.1)
+
+-- the words of a kind and of an owner are read again
+parts_again : (k : ReplyKind) (o : Option ℕ) → IfSome o (λ owner. owner < 2 ^ 32) → reply_at (spaced (reply_word k ∷ owner_words o)) ≡ reply_with k o
+parts_again k None h = rw (cut_nowhere 32 33 (reply_word k) (omega arith) (plain_word k), reply_word_again k) refl
+parts_again k (Some o) h = rw (cut_again 32 33 (reply_word k) (decimal o) (omega arith) (plain_word k), reply_word_again k, small_again o h) refl
 
 reply_again : (r : Reply) → IsReply r → reply_at (reply_text r) ≡ Some r
-reply_again replies.Claimed h = refl
-reply_again replies.Updated h = refl
-reply_again replies.Released h = refl
-reply_again replies.Transferred h = refl
-reply_again (replies.Taken o) h = rw (cut_again 32 33 (codes "taken") (decimal o) (omega arith) (plain_by_test (codes "taken") refl), small_again o h) refl
-reply_again replies.Unknown h = refl
-reply_again replies.NotOwner h = refl
-reply_again replies.Full h = refl
+reply_again r h = parts_again (reply_kind r) (reply_owner r) h ∙ reply_of_parts r
 
-reply_plain : (r : Reply) → IsReply r → AtLeast 32 (reply_text r)
-reply_plain replies.Claimed h = low (codes "claimed") (plain_by_test (codes "claimed") refl)
-reply_plain replies.Updated h = low (codes "updated") (plain_by_test (codes "updated") refl)
-reply_plain replies.Released h = low (codes "released") (plain_by_test (codes "released") refl)
-reply_plain replies.Transferred h = low (codes "transferred") (plain_by_test (codes "transferred") refl)
-reply_plain (replies.Taken o) h = joined (codes "taken") (decimal o) (plain_by_test (codes "taken") refl) ((as_text small_word).plain o h)
-reply_plain replies.Unknown h = low (codes "unknown") (plain_by_test (codes "unknown") refl)
-reply_plain replies.NotOwner h = low (codes "notowner") (plain_by_test (codes "notowner") refl)
-reply_plain replies.Full h = low (codes "full") (plain_by_test (codes "full") refl)
+parts_plain : (k : ReplyKind) (o : Option ℕ) → IfSome o (λ owner. owner < 2 ^ 32) → AtLeast 32 (spaced (reply_word k ∷ owner_words o))
+parts_plain k None h = low (reply_word k) (plain_word k)
+parts_plain k (Some o) h = joined (reply_word k) (decimal o) (plain_word k) ((as_text small_word).plain o h)
 
 pub reply_reader : IsReader 32 reply_at reply_text IsReply
-reply_reader = record { takes = λ t r e. reply_from_takes t (cut_at 32 t) r refl e; again = reply_again; plain = reply_plain }
+reply_reader = record {
+  takes = λ t r e. reply_from_takes t (cut_at 32 t) r refl e;
+  again = reply_again;
+  plain = λ r h. parts_plain (reply_kind r) (reply_owner r) h;
+}
 
 pub spaced_reply : (w : List ℕ) (r : Reply) → spaced (w ∷ reply_words r) ≡ w ++ 32 ∷ spaced (reply_words r)
-spaced_reply w replies.Claimed = refl
-spaced_reply w replies.Updated = refl
-spaced_reply w replies.Released = refl
-spaced_reply w replies.Transferred = refl
-spaced_reply w (replies.Taken o) = refl
-spaced_reply w replies.Unknown = refl
-spaced_reply w replies.NotOwner = refl
-spaced_reply w replies.Full = refl
+spaced_reply w r = refl

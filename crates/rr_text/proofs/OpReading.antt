@@ -1,16 +1,19 @@
 -- Operations and commands: reading gives what was printed, and what is read is printed so.
-use Rattle.std.proofs.Common.{◌≡◌, ℕ, ◌<◌, List, [], ◌∷◌, ◌++◌, length, Option, None, Some, codes, decimal, refl, ap, subst, ◌∙◌, sym, arith, inl, inr}
+use Rattle.std.proofs.Common.{◌≡◌, ℕ, ◌<◌, List, [], ◌∷◌, ◌++◌, length, Option, None, Some, decimal, refl, ap, subst, ◌∙◌, sym, arith, inl, inr}
 use Rattle.std.specs.Str.{bytes_eq}
 use Rattle.std.proofs.lemmas.Option.{same_Some}
 use Rattle.rr_types.specs.Names.{IsName, IsValue}
 use Rattle.rr_types.specs.declared.command.Op.{Op}
-use Rattle.rr_types.specs.declared.command.Op.TheVariants as ops
 use Rattle.rr_types.specs.declared.command.OpKind.{OpKind}
-use Rattle.rr_types.specs.declared.command.OpKind.TheVariants.{Claim, Update, Release, Transfer}
+use Rattle.rr_types.specs.declared.command.Shape.{Shape}
+use Rattle.rr_types.specs.declared.command.Shape.TheVariants.{Bare, Valued, Owned}
+use Rattle.rr_types.specs.declared.command.Operand.{Operand}
+use Rattle.rr_types.specs.declared.command.Operand.TheVariants.{Nothing, Value, Owner}
 use Rattle.rr_types.specs.declared.command.Command.{Command}
-use Rattle.rr_types.specs.Commands.{op_word}
-use Rattle.rr_text.specs.Words.{spaced, value_words, op_words, IsOp, IsCommand}
-use Rattle.rr_text.specs.Reading.{◌>>=◌, cut_at, find_by, name_at, small_at, number_at, filled_value_at, op_kind_at, named_from, named_at, target_at, op_at, submitted_at}
+use Rattle.rr_types.specs.Commands.{find_by, op_kinds, op_word, op_shape, op_kind, op_name, op_operand, operand_shape, op_of}
+use Rattle.rr_types.proofs.PartLemmas.{op_again as op_of_parts, op_shaped, kind_of_made, name_of_made, operand_of_made, word_again, word_is_plain}
+use Rattle.rr_text.specs.Words.{spaced, value_words, operand_words, op_words, IsOperand, IsOp, IsCommand}
+use Rattle.rr_text.specs.Reading.{◌>>=◌, cut_at, name_at, small_at, number_at, filled_value_at, op_kind_at, named_from, named_at, shaped_at, target_at, op_at, submitted_at}
 use Rattle.rr_text.proofs.CutLemmas.{AtLeast, bind_some, cut_again, cut_takes, cut_nowhere, plain_by_test}
 use Rattle.rr_text.proofs.NumberLemmas.{number_again, number_takes, small_again, small_takes, decimal_plain}
 use Rattle.rr_text.proofs.WordReading.{chosen, same_text, name_again, name_takes, name_plain, value_again, value_takes}
@@ -61,28 +64,36 @@ named_again : (x v : List ℕ) → IsName x → IsValue v → named_at (spaced (
 named_again x [] name value = rw (cut_nowhere 32 33 x (omega arith) (name_plain x name), name_again x name) refl
 named_again x (b ∷ v) name value = rw (cut_again 32 33 x (b ∷ v) (omega arith) (name_plain x name), name_again x name, value_again b v value) refl
 
-target_takes : (k : OpKind) (text : List ℕ) (op : Op) → target_at k text ≡ Some op → (spaced (op_words op) ≡ op_word k ++ 32 ∷ text) × IsOp op
-target_takes Claim text op e =
-    let r = bind_some (named_at text) (λ x. Some (ops.Claim x.0 x.1)) op e in
-    let t = named_takes text r.0 r.1 in
-    subst (λ (o : Op). (spaced (op_words o) ≡ codes "claim " ++ text) × IsOp o) (same_Some _ op r.2) (ap (λ (w : List ℕ). codes "claim " ++ w) t.0, (t.1, t.2))
-target_takes Update text op e =
-    let r = bind_some (named_at text) (λ x. Some (ops.Update x.0 x.1)) op e in
-    let t = named_takes text r.0 r.1 in
-    subst (λ (o : Op). (spaced (op_words o) ≡ codes "update " ++ text) × IsOp o) (same_Some _ op r.2) (ap (λ (w : List ℕ). codes "update " ++ w) t.0, (t.1, t.2))
-target_takes Release text op e =
-    let r = bind_some (name_at text) (λ x. Some (ops.Release x)) op e in
+-- the words of an operation of this kind, behind its own, are this text
+abbrev IsRead : OpKind → List ℕ → Op → Type 0
+IsRead k text op = (spaced (op_words op) ≡ op_word k ++ 32 ∷ text) × IsOp op
+
+made_read : (k : OpKind) (x : List ℕ) (o : Operand) (text : List ℕ) → operand_shape o ≡ op_shape k → spaced (x ∷ operand_words o) ≡ text → IsName x → IsOperand o → IsRead k text (op_of k x o)
+made_read k x o text shaped is name fits =
+    let kind : op_kind (op_of k x o) ≡ k = kind_of_made k x o in
+    let named : op_name (op_of k x o) ≡ x = name_of_made k x o in
+    let operand : op_operand (op_of k x o) ≡ o = operand_of_made k x o shaped in
+    let words : op_words (op_of k x o) ≡ op_word k ∷ x ∷ operand_words o = rw (kind, named, operand) refl in
+    (ap spaced words ∙ ap (λ (w : List ℕ). op_word k ++ 32 ∷ w) is, (rw named name, rw operand fits))
+
+shaped_takes : (k : OpKind) (s : Shape) (text : List ℕ) (op : Op) → op_shape k ≡ s → shaped_at k s text ≡ Some op → IsRead k text op
+shaped_takes k Bare text op s e =
+    let r = bind_some (name_at text) (λ x. Some (op_of k x Nothing)) op e in
     let t = name_takes text r.0 r.1 in
-    subst (λ (o : Op). (spaced (op_words o) ≡ codes "release " ++ text) × IsOp o) (same_Some _ op r.2) (ap (λ (w : List ℕ). codes "release " ++ w) t.0, t.1)
-target_takes Transfer text op e =
-    let w = bind_some (cut_at 32 text) (λ w. name_at w.0 >>= λ x. small_at w.1 >>= λ o. Some (ops.Transfer x o)) op e in
-    let x = bind_some (name_at w.0.0) (λ x. small_at w.0.1 >>= λ o. Some (ops.Transfer x o)) op w.2 in
-    let o = bind_some (small_at w.0.1) (λ o. Some (ops.Transfer x.0 o)) op x.2 in
+    subst (IsRead k text) (same_Some _ op r.2) (made_read k r.0 Nothing text (sym s) t.0 t.1 tt)
+shaped_takes k Valued text op s e =
+    let r = bind_some (named_at text) (λ x. Some (op_of k x.0 (Value x.1))) op e in
+    let t = named_takes text r.0 r.1 in
+    subst (IsRead k text) (same_Some _ op r.2) (made_read k r.0.0 (Value r.0.1) text (sym s) t.0 t.1 t.2)
+shaped_takes k Owned text op s e =
+    let w = bind_some (cut_at 32 text) (λ w. name_at w.0 >>= λ x. small_at w.1 >>= λ o. Some (op_of k x (Owner o))) op e in
+    let x = bind_some (name_at w.0.0) (λ x. small_at w.0.1 >>= λ o. Some (op_of k x (Owner o))) op w.2 in
+    let o = bind_some (small_at w.0.1) (λ o. Some (op_of k x.0 (Owner o))) op x.2 in
     let t = name_takes w.0.0 x.0 x.1 in
     let u = small_takes w.0.1 o.0 o.1 in
     let cut : text ≡ w.0.0 ++ 32 ∷ w.0.1 = cut_takes 32 text w.0.0 w.0.1 w.1 in
     let is : x.0 ++ 32 ∷ decimal o.0 ≡ text = ap (λ (y : List ℕ). y ++ 32 ∷ decimal o.0) t.0 ∙ ap (λ (y : List ℕ). w.0.0 ++ 32 ∷ y) u.0 ∙ sym cut in
-    subst (λ (o : Op). (spaced (op_words o) ≡ codes "transfer " ++ text) × IsOp o) (same_Some _ op o.2) (ap (λ (w : List ℕ). codes "transfer " ++ w) is, (t.1, u.1))
+    subst (IsRead k text) (same_Some _ op o.2) (made_read k x.0 (Owner o.0) text (sym s) is t.1 u.1)
 
 -- what is read as an operation is printed so
 pub op_takes : (text : List ℕ) (op : Op) → op_at text ≡ Some op → (spaced (op_words op) ≡ text) × IsOp op
@@ -90,32 +101,27 @@ op_takes text op e =
     let w = bind_some (cut_at 32 text) (λ w. op_kind_at w.0 >>= λ k. target_at k w.1) op e in
     let k = bind_some (op_kind_at w.0.0) (λ k. target_at k w.0.1) op w.2 in
     let cut : text ≡ w.0.0 ++ 32 ∷ w.0.1 = cut_takes 32 text w.0.0 w.0.1 w.1 in
-    let word : w.0.0 ≡ op_word k.0 = find_takes op_word w.0.0 (Claim ∷ Update ∷ Release ∷ Transfer ∷ []) k.0 k.1 in
-    let t = target_takes k.0 w.0.1 op k.2 in
+    let word : w.0.0 ≡ op_word k.0 = find_takes op_word w.0.0 op_kinds k.0 k.1 in
+    let t = shaped_takes k.0 (op_shape k.0) w.0.1 op refl k.2 in
     (t.0 ∙ ap (λ (y : List ℕ). y ++ 32 ∷ w.0.1) (sym word) ∙ sym cut, t.1)
 
-word_plain : (k : OpKind) → AtLeast 33 (op_word k)
-word_plain Claim = plain_by_test (codes "claim") refl
-word_plain Update = plain_by_test (codes "update") refl
-word_plain Release = plain_by_test (codes "release") refl
-word_plain Transfer = plain_by_test (codes "transfer") refl
-
-word_again : (k : OpKind) → op_kind_at (op_word k) ≡ Some k
-word_again Claim = refl
-word_again Update = refl
-word_again Release = refl
-word_again Transfer = refl
+pub word_plain : (k : OpKind) → AtLeast 33 (op_word k)
+word_plain k = plain_by_test (op_word k) (word_is_plain k)
 
 op_from : (k : OpKind) (text : List ℕ) (op : Op) → target_at k text ≡ Some op → op_at (op_word k ++ 32 ∷ text) ≡ Some op
 op_from k text op e = rw (cut_again 32 33 (op_word k) text (omega arith) (word_plain k), word_again k) e
 
+behind_again : (k : OpKind) (x : List ℕ) (o : Operand) → IsName x → IsOperand o → shaped_at k (operand_shape o) (spaced (x ∷ operand_words o)) ≡ Some (op_of k x o)
+behind_again k x Nothing name h = rw (name_again x name) refl
+behind_again k x (Value v) name h = rw (named_again x v name h) refl
+behind_again k x (Owner p) name h = rw (cut_again 32 33 x (decimal p) (omega arith) (name_plain x name), name_again x name, small_again p h) refl
+
 -- an operation that is printed is read again
 pub op_again : (op : Op) → IsOp op → op_at (spaced (op_words op)) ≡ Some op
-op_again (ops.Claim x v) h = op_from Claim (spaced (x ∷ value_words v)) (ops.Claim x v) (rw (named_again x v h.0 h.1) refl)
-op_again (ops.Update x v) h = op_from Update (spaced (x ∷ value_words v)) (ops.Update x v) (rw (named_again x v h.0 h.1) refl)
-op_again (ops.Release x) h = op_from Release x (ops.Release x) (rw (name_again x h) refl)
-op_again (ops.Transfer x o) h =
-    op_from Transfer (x ++ 32 ∷ decimal o) (ops.Transfer x o) (rw (cut_again 32 33 x (decimal o) (omega arith) (name_plain x h.0), name_again x h.0, small_again o h.1) refl)
+op_again op h =
+    let behind = behind_again (op_kind op) (op_name op) (op_operand op) h.0 h.1 in
+    op_from (op_kind op) (spaced (op_name op ∷ operand_words (op_operand op))) op
+    (rw (← op_shaped op) (behind ∙ ap (λ (o : Op). Some o) (op_of_parts op)))
 
 -- the words of a command behind the node
 abbrev pub submitted_text : Command → List ℕ

@@ -4,16 +4,17 @@ use Rattle.std.specs.List.{list_all, position}
 use Rattle.std.specs.Str.{bytes_eq}
 use Rattle.std.specs.Str.Parse.{digits_value}
 use Rattle.rr_types.specs.declared.command.Op.{Op}
-use Rattle.rr_types.specs.declared.command.Op.TheVariants as ops
 use Rattle.rr_types.specs.declared.command.OpKind.{OpKind}
-use Rattle.rr_types.specs.declared.command.OpKind.TheVariants.{Claim, Update, Release, Transfer}
+use Rattle.rr_types.specs.declared.command.Shape.{Shape}
+use Rattle.rr_types.specs.declared.command.Shape.TheVariants.{Bare, Valued, Owned}
+use Rattle.rr_types.specs.declared.command.Operand.TheVariants.{Nothing, Value, Owner}
 use Rattle.rr_types.specs.declared.command.Command.{Command}
 use Rattle.rr_types.specs.declared.message.MessageKind.{MessageKind}
 use Rattle.rr_types.specs.declared.message.MessageKind.TheVariants as messages
 use Rattle.rr_types.specs.declared.input.Input.TheVariants as input
 use Rattle.rr_types.specs.declared.event.NodeEvent.{NodeEvent}
 use Rattle.rr_types.specs.declared.event.NodeEvent.TheVariants as node
-use Rattle.rr_types.specs.Commands.{op_word}
+use Rattle.rr_types.specs.Commands.{find_by, op_word, op_kinds, op_shape, op_of}
 use Rattle.rr_types.specs.Messages.{message_word}
 use Rattle.rr_types.specs.Names.{is_name_byte, is_value_byte}
 use Rattle.rr_text.specs.declared.event.Event.{Event}
@@ -37,11 +38,6 @@ cut_by text (Some i) = Some (take i text, drop (i + 1) text)
 -- what stands before the first byte c and behind it
 abbrev pub cut_at : ℕ → List ℕ → Option (List ℕ × List ℕ)
 cut_at c text = cut_by text (position (λ b. b == c) text)
-
--- the thing whose text a word is
-abbrev pub find_by : {K : Type 0} → (K → List ℕ) → List ℕ → List K → Option K
-find_by text w [] = None
-find_by text w (k ∷ ks) = if bytes_eq w (text k) then Some k else find_by text w ks
 
 -- a number below 2 ^ 64
 abbrev pub number_at : List ℕ → Option ℕ
@@ -98,7 +94,7 @@ fill_at (b ∷ w) = if bytes_eq (b ∷ w) (codes "-") then Some [] else pairs_at
 
 -- the kind of operations that a word stands for
 abbrev pub op_kind_at : List ℕ → Option OpKind
-op_kind_at w = find_by op_word w (Claim ∷ Update ∷ Release ∷ Transfer ∷ [])
+op_kind_at w = find_by op_word w op_kinds
 
 -- the kind of messages that a word stands for
 abbrev pub message_kind_at : List ℕ → Option MessageKind
@@ -120,16 +116,15 @@ named_from text (Some w) = name_and_value (name_at w.0) (filled_value_at w.1)
 abbrev pub named_at : List ℕ → Option (List ℕ × List ℕ)
 named_at text = named_from text (cut_at 32 text)
 
--- a transfer of a name to an owner
-abbrev pub transferred_at : List ℕ → Option Op
-transferred_at text = cut_at 32 text >>= λ w. name_at w.0 >>= λ x. small_at w.1 >>= λ o. Some (ops.Transfer x o)
+-- an operation of this kind, where operations of the kind have this beside their names
+abbrev pub shaped_at : OpKind → Shape → List ℕ → Option Op
+shaped_at k Bare text = name_at text >>= λ x. Some (op_of k x Nothing)
+shaped_at k Valued text = named_at text >>= λ x. Some (op_of k x.0 (Value x.1))
+shaped_at k Owned text = cut_at 32 text >>= λ w. name_at w.0 >>= λ x. small_at w.1 >>= λ o. Some (op_of k x (Owner o))
 
 -- an operation of this kind
 abbrev pub target_at : OpKind → List ℕ → Option Op
-target_at Claim text = named_at text >>= λ x. Some (ops.Claim x.0 x.1)
-target_at Update text = named_at text >>= λ x. Some (ops.Update x.0 x.1)
-target_at Release text = name_at text >>= λ x. Some (ops.Release x)
-target_at Transfer text = transferred_at text
+target_at k text = shaped_at k (op_shape k) text
 
 -- an operation
 abbrev pub op_at : List ℕ → Option Op

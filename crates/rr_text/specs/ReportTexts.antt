@@ -1,15 +1,15 @@
 -- The text of a report.
-use Rattle.std.specs.Prelude.{ℕ, ◌+◌, List, [], ◌∷◌, ◌++◌, length, map, codes, decimal}
+use Rattle.std.specs.Prelude.{ℕ, ◌+◌, List, [], ◌∷◌, ◌++◌, length, map, Option, None, Some, codes, decimal}
 use Rattle.std.specs.List.{flat_map}
 use Rattle.rr_types.specs.declared.binding.Binding.{Binding}
 use Rattle.rr_types.specs.declared.command.RequestNo.{RequestNo}
 use Rattle.rr_types.specs.declared.command.Command.{Command}
 use Rattle.rr_types.specs.declared.command.Reply.{Reply}
-use Rattle.rr_types.specs.declared.command.Reply.TheVariants.{Claimed, Updated, Released, Transferred, Taken, Unknown, NotOwner, Full}
 use Rattle.rr_types.specs.declared.message.Body.{Body}
 use Rattle.rr_types.specs.declared.message.Body.TheVariants as bodies
 use Rattle.rr_types.specs.declared.message.Message.{Message}
 use Rattle.rr_types.specs.declared.message.MessageKind.TheVariants.{Estimate, Proposal, Ack, Decision, Request, Nack, Beat, Suspects, Ask}
+use Rattle.rr_types.specs.Commands.{reply_word, reply_kind, reply_owner}
 use Rattle.rr_types.specs.Messages.{message_word}
 use Rattle.rr_types.specs.Refusal.{number_of, name_of}
 use Rattle.rr_text.specs.declared.report.ReportLine.{ReportLine}
@@ -41,16 +41,14 @@ body_words (bodies.Ask i) = message_word Ask ∷ decimal i ∷ []
 abbrev pub message_words : Message → List (List ℕ)
 message_words m = decimal m.from ∷ decimal m.to ∷ body_words m.body
 
+-- the owner that a reply names
+abbrev pub owner_words : Option ℕ → List (List ℕ)
+owner_words None = []
+owner_words (Some owner) = decimal owner ∷ []
+
 -- a reply, with the owner of a name that is taken
 abbrev pub reply_words : Reply → List (List ℕ)
-reply_words Claimed = codes "claimed" ∷ []
-reply_words Updated = codes "updated" ∷ []
-reply_words Released = codes "released" ∷ []
-reply_words Transferred = codes "transferred" ∷ []
-reply_words (Taken owner) = codes "taken" ∷ decimal owner ∷ []
-reply_words Unknown = codes "unknown" ∷ []
-reply_words NotOwner = codes "notowner" ∷ []
-reply_words Full = codes "full" ∷ []
+reply_words r = reply_word (reply_kind r) ∷ owner_words (reply_owner r)
 
 -- a bound name, its owner and its value
 abbrev pub binding_text : Binding → List ℕ

@@ -1,10 +1,11 @@
 -- Reading words of a tape from left to right: what each reader of the code gives.
-use Rattle.std.specs.Prelude.{ℕ, Bool, true, false, nat_lt, nat_le, ◌&&◌, if◌then◌else◌, List, [], ◌∷◌, codes, Option, None, Some}
+use Rattle.std.specs.Prelude.{ℕ, Bool, true, false, nat_lt, nat_le, ◌&&◌, if◌then◌else◌, List, Option, None, Some}
 use Rattle.std.specs.Str.{bytes_eq}
 use Rattle.rr_types.specs.declared.command.RequestNo.{RequestNo}
 use Rattle.rr_types.specs.declared.command.Command.{Command}
 use Rattle.rr_types.specs.declared.command.Reply.{Reply}
-use Rattle.rr_types.specs.declared.command.Reply.TheVariants.{Claimed, Updated, Released, Transferred, Taken, Unknown, NotOwner, Full}
+use Rattle.rr_types.specs.declared.command.ReplyKind.{ReplyKind}
+use Rattle.rr_types.specs.Commands.{find_by, reply_word, reply_kinds, reply_with}
 use Rattle.rr_types.specs.declared.message.Body.{Body}
 use Rattle.rr_types.specs.declared.message.Body.TheVariants as bodies
 use Rattle.rr_types.specs.declared.message.Message.{Message}
@@ -19,9 +20,7 @@ use Rattle.rr_text.specs.declared.event.Happening.TheVariants.{At}
 use Rattle.rr_types.specs.declared.event.NodeEvent.TheVariants as events
 use Rattle.rr_text.specs.declared.kind.EventKind.{EventKind}
 use Rattle.rr_text.specs.declared.kind.EventKind.TheVariants as keywords
-use Rattle.rr_text.specs.Words.{spaced}
-use Rattle.rr_text.specs.ReportTexts.{reply_words}
-use Rattle.rr_text.specs.Reading.{◌>>=◌, cut_at, find_by, number_at, small_at, node_at, set_at, op_at, message_kind_at, keyword_at, fields_at}
+use Rattle.rr_text.specs.Reading.{◌>>=◌, cut_at, number_at, small_at, node_at, set_at, op_at, message_kind_at, keyword_at, fields_at}
 use Rattle.rr_text.specs.declared.sent_read.Heading.{Heading}
 use Rattle.rr_text.specs.declared.tape_event.TapeEvent.{TapeEvent}
 use Rattle.rr_text.specs.declared.tape_event.Recorded.{Recorded}
@@ -96,14 +95,14 @@ body_at n text = body_from n text (cut_at 32 text)
 abbrev pub message_at : ℕ → List ℕ → Option Message
 message_at n text = both_at (node_at n) (both_at (node_at n) (body_at n)) text >>= λ m. Some (record { from = m.0; to = m.1.0; body = m.1.1 })
 
--- a reply that is one word
-abbrev pub plain_reply_at : List ℕ → Option Reply
-plain_reply_at w = find_by (λ r. spaced (reply_words r)) w (Claimed ∷ Updated ∷ Released ∷ Transferred ∷ Unknown ∷ NotOwner ∷ Full ∷ [])
+-- the kind of replies that a word stands for
+abbrev pub reply_kind_at : List ℕ → Option ReplyKind
+reply_kind_at w = find_by reply_word w reply_kinds
 
 -- a reply, from the whole text or from its parts at the first space
 abbrev pub reply_from : List ℕ → Option (List ℕ × List ℕ) → Option Reply
-reply_from text None = plain_reply_at text
-reply_from text (Some w) = if bytes_eq w.0 (codes "taken") then (small_at w.1 >>= λ o. Some (Taken o)) else None
+reply_from text None = reply_kind_at text >>= λ k. reply_with k None
+reply_from text (Some w) = reply_kind_at w.0 >>= λ k. small_at w.1 >>= λ o. reply_with k (Some o)
 
 -- a reply
 abbrev pub reply_at : List ℕ → Option Reply

@@ -1,9 +1,9 @@
 -- A tape: how many nodes there are, its events, and what may stand in it.
-use Rattle.std.specs.Prelude.{◌≡◌, ℕ, ◌^◌, ◌<◌, ◌≤◌, List, length}
+use Rattle.std.specs.Prelude.{◌≡◌, ℕ, ◌^◌, ◌<◌, ◌≤◌, List, length, IfSome}
 use Rattle.std.specs.List.{AllByRecursion}
 use Rattle.rr_types.specs.declared.command.RequestNo.{RequestNo}
 use Rattle.rr_types.specs.declared.command.Reply.{Reply}
-use Rattle.rr_types.specs.declared.command.Reply.TheVariants.{Claimed, Updated, Released, Transferred, Taken, Unknown, NotOwner, Full}
+use Rattle.rr_types.specs.Commands.{reply_owner}
 use Rattle.rr_types.specs.declared.message.Body.{Body}
 use Rattle.rr_types.specs.declared.message.Body.TheVariants as bodies
 use Rattle.rr_types.specs.declared.message.Message.{Message}
@@ -59,14 +59,7 @@ pub record IsRequest (q : RequestNo) : Type 0 where
 
 -- a reply
 abbrev pub IsReply : Reply → Type 0
-IsReply Claimed = Unit {0}
-IsReply Updated = Unit {0}
-IsReply Released = Unit {0}
-IsReply Transferred = Unit {0}
-IsReply (Taken owner) = owner < 2 ^ 32
-IsReply Unknown = Unit {0}
-IsReply NotOwner = Unit {0}
-IsReply Full = Unit {0}
+IsReply r = IfSome (reply_owner r) (λ owner. owner < 2 ^ 32)
 
 -- an event of node p of which a tape has this
 abbrev pub of_node : ℕ → Recorded → TapeEvent

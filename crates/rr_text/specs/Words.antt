@@ -2,10 +2,10 @@
 use Rattle.std.specs.Prelude.{ℕ, ◌+◌, ◌/◌, ◌%◌, ◌^◌, ◌<◌, if◌then◌else◌, ◌==◌, nat_lt, zero, suc, List, [], ◌∷◌, ◌++◌, codes, decimal}
 use Rattle.std.specs.List.{flat_map, AllByRecursion}
 use Rattle.rr_types.specs.declared.command.Op.{Op}
-use Rattle.rr_types.specs.declared.command.Op.TheVariants.{Claim, Update, Release, Transfer}
-use Rattle.rr_types.specs.declared.command.OpKind.TheVariants as kinds
+use Rattle.rr_types.specs.declared.command.Operand.{Operand}
+use Rattle.rr_types.specs.declared.command.Operand.TheVariants.{Nothing, Value, Owner}
 use Rattle.rr_types.specs.declared.command.Command.{Command}
-use Rattle.rr_types.specs.Commands.{op_word}
+use Rattle.rr_types.specs.Commands.{op_word, op_kind, op_name, op_operand}
 use Rattle.rr_types.specs.Names.{IsName, IsValue}
 
 -- words, divided by one space
@@ -19,12 +19,15 @@ abbrev pub value_words : List ℕ → List (List ℕ)
 value_words [] = []
 value_words (b ∷ bs) = (b ∷ bs) ∷ []
 
--- an operation: its word, the name, then a value or the new owner
+-- what an operation has beside its name: nothing, a value or the new owner
+abbrev pub operand_words : Operand → List (List ℕ)
+operand_words Nothing = []
+operand_words (Value value) = value_words value
+operand_words (Owner owner) = decimal owner ∷ []
+
+-- an operation: its word, the name, then what stands beside it
 abbrev pub op_words : Op → List (List ℕ)
-op_words (Claim name value) = op_word kinds.Claim ∷ name ∷ value_words value
-op_words (Update name value) = op_word kinds.Update ∷ name ∷ value_words value
-op_words (Release name) = op_word kinds.Release ∷ name ∷ []
-op_words (Transfer name owner) = op_word kinds.Transfer ∷ name ∷ decimal owner ∷ []
+op_words op = op_word (op_kind op) ∷ op_name op ∷ operand_words (op_operand op)
 
 -- the members of a set among k nodes from p on, each as its digit, ascending; bit 0 of the set is node p
 abbrev pub member_digits : ℕ → ℕ → ℕ → List ℕ
@@ -49,12 +52,15 @@ abbrev pub fill_text : List ℕ → List ℕ
 fill_text [] = codes "-"
 fill_text (b ∷ bs) = flat_map hex_pair (b ∷ bs)
 
+-- what may stand beside a name
+abbrev pub IsOperand : Operand → Type 0
+IsOperand Nothing = Unit {0}
+IsOperand (Value value) = IsValue value
+IsOperand (Owner owner) = owner < 2 ^ 32
+
 -- an operation on a name, with a value or an owner that there can be
 abbrev pub IsOp : Op → Type 0
-IsOp (Claim name value) = IsName name × IsValue value
-IsOp (Update name value) = IsName name × IsValue value
-IsOp (Release name) = IsName name
-IsOp (Transfer name owner) = IsName name × (owner < 2 ^ 32)
+IsOp op = IsName (op_name op) × IsOperand (op_operand op)
 
 -- a command with numbers in their ranges
 pub record IsCommand (c : Command) : Type 0 where

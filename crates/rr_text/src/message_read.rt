@@ -1,10 +1,10 @@
 //! Reading the words of commands, of estimates and of replies.
 
 ghost use Rattle.std.specs.Prelude.{◌≡◌, None, Some, MatchOption};
-ghost use Rattle.rr_text.specs.TapeReading.{instance_at, round_at, request_at, command_at, estimate_at, plain_reply_at, reply_at};
+ghost use Rattle.rr_text.specs.TapeReading.{instance_at, round_at, request_at, command_at, estimate_at, reply_at};
 
 use crate::text_read::{cut, number, op, small_number};
-use rr_types::{Command, Estimate, Instance, Op, Reply, RequestNo, Round, made_of};
+use rr_types::{Command, Estimate, Instance, Op, Reply, ReplyKind, RequestNo, Round, made_of};
 
 /// The instance that a word is the number of.
 pub fn instance(word: &[u8]) -> Option<Instance>
@@ -57,40 +57,19 @@ pub fn estimate(text: &[u8]) -> Option<Estimate>
     Estimate::new(round, stamp, command)
 }
 
-fn plain_reply(word: &[u8]) -> Option<Reply>
-    ensures { result ≡ plain_reply_at word.now }
-{
-    if word == b"claimed".as_slice() {
-        Some(Reply::Claimed)
-    } else if word == b"updated".as_slice() {
-        Some(Reply::Updated)
-    } else if word == b"released".as_slice() {
-        Some(Reply::Released)
-    } else if word == b"transferred".as_slice() {
-        Some(Reply::Transferred)
-    } else if word == b"unknown".as_slice() {
-        Some(Reply::Unknown)
-    } else if word == b"notowner".as_slice() {
-        Some(Reply::NotOwner)
-    } else if word == b"full".as_slice() {
-        Some(Reply::Full)
-    } else {
-        None
-    }
-}
-
 /// The reply that a text is.
 pub fn reply(text: &[u8]) -> Option<Reply>
     ensures { result ≡ reply_at text.now }
 {
     match cut(text, b' ') {
         Some((word, rest)) => {
-            if word == b"taken".as_slice() {
-                Some(Reply::Taken(small_number(rest)?))
-            } else {
-                None
-            }
+            let kind = ReplyKind::of_word(word)?;
+            let owner = small_number(rest)?;
+            Reply::of(kind, Some(owner))
         }
-        None => plain_reply(text),
+        None => {
+            let kind = ReplyKind::of_word(text)?;
+            Reply::of(kind, None)
+        }
     }
 }

@@ -3,13 +3,15 @@
 ghost use Rattle.std.specs.Prelude.{true, [], ◌∷◌, unwrap_or, IfSome, ◌≡◌, ◌+◌, ◌-◌, ◌*◌, ◌<◌, ◌≤◌, ◌^◌, ◌==◌, SomeIff, nat_lt, if◌then◌else◌, IsTrue, None, Some, MatchOption, IfOk};
 ghost use Rattle.std.specs.List.{list_all, position};
 ghost use Rattle.std.specs.Str.Parse.{digits_value};
+ghost use Rattle.rr_types.specs.Commands.{find_by, op_shape, op_of};
 ghost use Rattle.rr_text.specs.Numbers.{is_digit, is_number};
-ghost use Rattle.rr_text.specs.Reading.{find_by, keyword_text, cut_at, number_at, small_at, node_at, name_at, filled_value_at, members_at, set_at, hex_value, hex_byte, pairs_at, fill_at, submitted_at, first_node_at, cuts_at, fields_at, event_at, target_at, keyword_at, op_kind_at, message_kind_at, op_at};
+ghost use Rattle.rr_text.specs.Reading.{keyword_text, cut_at, number_at, small_at, node_at, name_at, filled_value_at, members_at, set_at, hex_value, hex_byte, pairs_at, fill_at, submitted_at, first_node_at, cuts_at, fields_at, event_at, shaped_at, target_at, keyword_at, message_kind_at, op_at};
 
 use crate::kind::EventKind;
 use memchr::memchr;
 use rr_types::{
-    Command, MessageKind, Name, NodeId, NodeSet, Nodes, Op, OpKind, Refusal, RequestNo, Value,
+    Command, MessageKind, Name, NodeId, NodeSet, Nodes, Op, OpKind, Operand, Refusal, RequestNo,
+    Shape, Value,
 };
 
 fn place_of(text: &[u8], at: u8) -> Option<usize>
@@ -202,24 +204,6 @@ pub fn hex_byte(high: u8, low: u8) -> Option<u8>
     }
 }
 
-/// The kind of operations that a word stands for. It is told by the first byte, and then compared with one word alone.
-pub fn op_kind(word: &[u8]) -> Option<OpKind>
-    ensures { result ≡ op_kind_at word.now }
-{
-    let kind = match word {
-        [b'c', ..] => OpKind::Claim,
-        [b'u', ..] => OpKind::Update,
-        [b'r', ..] => OpKind::Release,
-        [b't', ..] => OpKind::Transfer,
-        _ => return None,
-    };
-    if word == kind.word().as_bytes() {
-        Some(kind)
-    } else {
-        None
-    }
-}
-
 /// The kind of messages that a word stands for.
 pub fn message_kind(word: &[u8]) -> Option<MessageKind>
     ensures { result ≡ message_kind_at word.now }
@@ -249,22 +233,20 @@ fn empty_value() -> Option<Value>
     Value::new(&[]).ok()
 }
 
-// A claim where `claims`, else an update. Names and values are large, and each value that may be none costs a copy of them.
-// So there is no pair of them that may be none, and the operation is made where both are there.
-fn binding_op(claims: bool, name: Name, value: Value) -> Op
-    ensures { result ≡ (if claims then Op.Claim name value else Op.Update name value) }
+// An operation with a value. Names and values are large, and each value that may be none costs a copy of them. So there is no
+// pair of them that may be none, and the operation is made where both are there.
+fn valued_op(kind: OpKind, name: Name, value: Value) -> Op
+    requires { op_shape kind ≡ Shape.Valued }
+    ensures { result ≡ op_of kind name (Operand.Value value) }
 {
-    if claims {
-        Op::Claim(name, value)
-    } else {
-        Op::Update(name, value)
-    }
+    Op::of(kind, &name, &Operand::Value(value))
 }
 
-// The claim, or the update, of a text that is a name alone.
-fn bound_alone(claims: bool, text: &[u8]) -> Option<Op>
-    requires { cut_at 32 text.now ≡ None }
-    ensures { result ≡ target_at (if claims then OpKind.Claim else OpKind.Update) text.now }
+// The operation with a value that a text is which is a name alone.
+fn valued_alone(kind: OpKind, text: &[u8]) -> Option<Op>
+    requires alone { cut_at 32 text.now ≡ None }
+    requires shaped { op_shape kind ≡ Shape.Valued }
+    ensures { result ≡ shaped_at kind Shape.Valued text.now }
 {
     let Some(name) = name(text) else {
         return None;
@@ -272,15 +254,16 @@ fn bound_alone(claims: bool, text: &[u8]) -> Option<Op>
     let Some(value) = empty_value() else {
         return None;
     };
-    Some(binding_op(claims, name, value))
+    Some(valued_op(kind, name, value))
 }
 
-// The claim, or the update, that a text is.
-fn bound(claims: bool, text: &[u8]) -> Option<Op>
-    ensures { result ≡ target_at (if claims then OpKind.Claim else OpKind.Update) text.now }
+// The operation with a value that a text is.
+fn valued(kind: OpKind, text: &[u8]) -> Option<Op>
+    requires { op_shape kind ≡ Shape.Valued }
+    ensures { result ≡ shaped_at kind Shape.Valued text.now }
 {
     let Some((word, rest)) = cut(text, b' ') else {
-        return bound_alone(claims, text);
+        return valued_alone(kind, text);
     };
     let Some(name) = name(word) else {
         return None;
@@ -288,20 +271,24 @@ fn bound(claims: bool, text: &[u8]) -> Option<Op>
     let Some(value) = filled_value(rest) else {
         return None;
     };
-    Some(binding_op(claims, name, value))
+    Some(valued_op(kind, name, value))
 }
 
-fn released(text: &[u8]) -> Option<Op>
-    ensures { result ≡ target_at OpKind.Release text.now }
+// The operation on a name alone that a text is.
+fn bare(kind: OpKind, text: &[u8]) -> Option<Op>
+    requires { op_shape kind ≡ Shape.Bare }
+    ensures { result ≡ shaped_at kind Shape.Bare text.now }
 {
     let Some(name) = name(text) else {
         return None;
     };
-    Some(Op::Release(name))
+    Some(Op::of(kind, &name, &Operand::Nothing))
 }
 
-fn transferred(text: &[u8]) -> Option<Op>
-    ensures { result ≡ target_at OpKind.Transfer text.now }
+// The operation with an owner that a text is.
+fn owned(kind: OpKind, text: &[u8]) -> Option<Op>
+    requires { op_shape kind ≡ Shape.Owned }
+    ensures { result ≡ shaped_at kind Shape.Owned text.now }
 {
     let Some((word, rest)) = cut(text, b' ') else {
         return None;
@@ -312,7 +299,18 @@ fn transferred(text: &[u8]) -> Option<Op>
     let Some(owner) = small_number(rest) else {
         return None;
     };
-    Some(Op::Transfer(name, owner))
+    Some(Op::of(kind, &name, &Operand::Owner(owner)))
+}
+
+// The operation of this kind that a text is.
+fn target(kind: OpKind, text: &[u8]) -> Option<Op>
+    ensures { result ≡ target_at kind text.now }
+{
+    match kind.shape() {
+        Shape::Bare => bare(kind, text),
+        Shape::Valued => valued(kind, text),
+        Shape::Owned => owned(kind, text),
+    }
 }
 
 /// The operation that a text is.
@@ -322,11 +320,8 @@ pub fn op(text: &[u8]) -> Option<Op>
     let Some((word, rest)) = cut(text, b' ') else {
         return None;
     };
-    match op_kind(word) {
-        Some(OpKind::Claim) => bound(true, rest),
-        Some(OpKind::Update) => bound(false, rest),
-        Some(OpKind::Release) => released(rest),
-        Some(OpKind::Transfer) => transferred(rest),
+    match OpKind::of_word(word) {
+        Some(kind) => target(kind, rest),
         None => None,
     }
 }

@@ -5,15 +5,14 @@ ghost use Rattle.std.specs.List.{flat_map};
 ghost use Rattle.rr_types.specs.Messages.{message_word};
 ghost use Rattle.rr_types.specs.Refusal.{number_of, name_of};
 ghost use Rattle.rr_text.specs.Words.{spaced, op_words};
-ghost use Rattle.rr_text.specs.ReportTexts.{request_text, command_words, body_words, message_words, reply_words, binding_text, report_words, line, decided_lines, report_text};
+ghost use Rattle.rr_text.specs.ReportTexts.{request_text, command_words, body_words, message_words, binding_text, report_words, line, decided_lines, report_text};
 
 use crate::report::{Report, ReportLine};
 use crate::text_word::{
-    push_byte, push_bytes, push_number, push_number_word, push_op, push_set, push_word,
+    push_byte, push_bytes, push_number, push_number_word, push_op, push_reply, push_set, push_word,
 };
 use rr_types::{
-    Binding, Body, Command, Instance, Message, MessageKind, NodeId, Refusal, Reply, RequestNo,
-    Round,
+    Binding, Body, Command, Instance, Message, MessageKind, NodeId, Refusal, RequestNo, Round,
 };
 use std::alloc::{AllocError, Global};
 
@@ -105,24 +104,6 @@ fn push_message(out: &mut Vec<u8>, message: &Message) -> Result<(), AllocError>
     push_body(out, &message.body)
 }
 
-fn push_reply(out: &mut Vec<u8>, reply: Reply) -> Result<(), AllocError>
-    ensures ok { OnOk result (out.new.items ≡ out.old.items ++ 32 ∷ spaced (reply_words reply)) }
-{
-    match reply {
-        Reply::Claimed => push_word(out, b"claimed"),
-        Reply::Updated => push_word(out, b"updated"),
-        Reply::Released => push_word(out, b"released"),
-        Reply::Transferred => push_word(out, b"transferred"),
-        Reply::Taken(owner) => {
-            push_word(out, b"taken")?;
-            push_number_word(out, u64::from(owner))
-        }
-        Reply::Unknown => push_word(out, b"unknown"),
-        Reply::NotOwner => push_word(out, b"notowner"),
-        Reply::Full => push_word(out, b"full"),
-    }
-}
-
 fn push_binding(out: &mut Vec<u8>, binding: &Binding) -> Result<(), AllocError>
     ensures ok { OnOk result (out.new.items ≡ out.old.items ++ 32 ∷ binding_text binding.now) }
 {
@@ -168,6 +149,7 @@ pub fn push_report_words(out: &mut Vec<u8>, report_line: &ReportLine) -> Result<
             push_bytes(out, b"ack")?;
             push_node(out, *node)?;
             push_request(out, *request)?;
+            push_byte(out, b' ')?;
             push_reply(out, *reply)
         }
         ReportLine::Restart {

@@ -3,11 +3,11 @@
 ghost use Rattle.std.specs.Prelude.{◌≡◌, ◌∷◌, ◌++◌, OnOk, decimal};
 ghost use Rattle.std.specs.List.{flat_map};
 ghost use Rattle.std.specs.Prelude.{[], ◌-◌, ◌≤◌, ◌<◌};
-ghost use Rattle.rr_types.specs.Commands.{op_word};
-ghost use Rattle.rr_text.specs.Words.{spaced, op_words, set_text, fill_text, hex_pair, hex_digit, member_digits, value_words};
+ghost use Rattle.rr_text.specs.Words.{spaced, operand_words, op_words, set_text, fill_text, hex_pair, hex_digit, member_digits};
+ghost use Rattle.rr_text.specs.ReportTexts.{owner_words, reply_words};
 
 use itoa::Buffer;
-use rr_types::{Name, NodeSet, Op, OpKind, Value};
+use rr_types::{Name, NodeSet, Op, Operand, Reply};
 use std::alloc::AllocError;
 
 /// Appends bytes.
@@ -54,20 +54,21 @@ pub fn push_number_word(out: &mut Vec<u8>, number: u64) -> Result<(), AllocError
     push_number(out, number)
 }
 
-fn push_binding_op(
-    out: &mut Vec<u8>,
-    kind: OpKind,
-    name: &Name,
-    value: &Value,
-) -> Result<(), AllocError>
-    ensures ok { OnOk result (out.new.items ≡ out.old.items ++ 32 ∷ spaced (op_word kind ∷ name.now ∷ value_words value.now)) }
+// A name, and what stands beside it. The empty value is no word.
+fn push_named(out: &mut Vec<u8>, name: &Name, operand: &Operand) -> Result<(), AllocError>
+    ensures ok { OnOk result (out.new.items ≡ out.old.items ++ 32 ∷ spaced (name.now ∷ operand_words operand.now)) }
 {
-    push_word(out, kind.word().as_bytes())?;
     push_word(out, name.as_bytes())?;
-    let value = value.as_bytes();
-    match value {
-        [] => Ok(()),
-        [_, ..] => push_word(out, value),
+    match operand {
+        Operand::Nothing => Ok(()),
+        Operand::Value(value) => {
+            let value = value.as_bytes();
+            match value {
+                [] => Ok(()),
+                [_, ..] => push_word(out, value),
+            }
+        }
+        Operand::Owner(owner) => push_number_word(out, u64::from(*owner)),
     }
 }
 
@@ -75,19 +76,26 @@ fn push_binding_op(
 pub fn push_op(out: &mut Vec<u8>, op: &Op) -> Result<(), AllocError>
     ensures ok { OnOk result (out.new.items ≡ out.old.items ++ 32 ∷ spaced (op_words op.now)) }
 {
-    match op {
-        Op::Claim(name, value) => push_binding_op(out, OpKind::Claim, name, value),
-        Op::Update(name, value) => push_binding_op(out, OpKind::Update, name, value),
-        Op::Release(name) => {
-            push_word(out, OpKind::Release.word().as_bytes())?;
-            push_word(out, name.as_bytes())
-        }
-        Op::Transfer(name, owner) => {
-            push_word(out, OpKind::Transfer.word().as_bytes())?;
-            push_word(out, name.as_bytes())?;
-            push_number_word(out, u64::from(*owner))
-        }
+    push_word(out, op.kind().word().as_bytes())?;
+    push_named(out, op.name(), &op.operand())
+}
+
+// A word, and the owner that is named behind it.
+fn push_owned_word(out: &mut Vec<u8>, word: &[u8], owner: Option<u32>) -> Result<(), AllocError>
+    ensures ok { OnOk result (out.new.items ≡ out.old.items ++ spaced (word.now ∷ owner_words owner)) }
+{
+    push_bytes(out, word)?;
+    match owner {
+        None => Ok(()),
+        Some(owner) => push_number_word(out, u64::from(owner)),
     }
+}
+
+/// Appends a reply: its word, and the owner of a name that is taken.
+pub fn push_reply(out: &mut Vec<u8>, reply: Reply) -> Result<(), AllocError>
+    ensures ok { OnOk result (out.new.items ≡ out.old.items ++ spaced (reply_words reply)) }
+{
+    push_owned_word(out, reply.kind().word().as_bytes(), reply.owner())
 }
 
 #[tactic(auto, using(crate::proofs::WordLemmas::member_digits_step, crate::proofs::WordLemmas::member_digits_end, crate::proofs::WordLemmas::members_one))]

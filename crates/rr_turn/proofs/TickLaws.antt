@@ -11,7 +11,7 @@ use Rattle.rr_turn.specs.Recorded.{Sent}
 use Rattle.rr_turn.specs.Chases.{Chase, again, chase_ticked}
 use Rattle.rr_turn.specs.Ticks.{Standstill, is_advance_due, standstill_after}
 use Rattle.rr_turn.specs.Asked.{Call, Ran, still, more, tells, hears}
-use Rattle.rr_turn.specs.Turns.{taking, all_met, all_met_chase, heard_again, hearing_again, is_catching_up, advancing, beating, ticking, ticked_chase, ticked_standstill}
+use Rattle.rr_turn.specs.Turns.{taking, all_met, all_met_chase, heard_again, hearing_again, is_catching_up, advancing, found_in, beating, ticking, ticked_chase, ticked_standstill}
 use Rattle.rr_turn.specs.Looks.{Hears, TicksFrom, Ticked, TicksIf}
 use Rattle.rr_turn.proofs.Runs.{run_join}
 
@@ -30,13 +30,13 @@ in_of s None e h = refl
 in_of s (Some x) e h = let same : Some x ≡ None = rw e at h in absurd cc
 
 pub standstill_same : (s : NodeState) (c : Chase) (k : Standstill) → is_catching_up s c ≡ true → k ≡ ticked_standstill s c k
-standstill_same s c k is = ap (λ b. cond b k (standstill_after (length (decided_prefix (node_step Tick (heard_again s c)))) k)) (sym is)
+standstill_same s c k is = ap (λ b. cond b k (standstill_after (found_in (node_step Tick (heard_again s c))) k)) (sym is)
 
 pub standstill_counted : (s t : NodeState) (c : Chase) (k j : Standstill) → is_catching_up s c ≡ false → t ≡ heard_again s c
-    → j ≡ standstill_after (length (decided_prefix (node_step Tick t))) k → j ≡ ticked_standstill s c k
+    → j ≡ standstill_after (found_in (node_step Tick t)) k → j ≡ ticked_standstill s c k
 standstill_counted s t c k j is here counted =
-    counted ∙ ap (λ (u : NodeState). standstill_after (length (decided_prefix (node_step Tick u))) k) here
-    ∙ ap (λ b. cond b k (standstill_after (length (decided_prefix (node_step Tick (heard_again s c)))) k)) (sym is)
+    counted ∙ ap (λ (u : NodeState). standstill_after (found_in (node_step Tick u)) k) here
+    ∙ ap (λ b. cond b k (standstill_after (found_in (node_step Tick (heard_again s c))) k)) (sym is)
 
 -- what holds is so where a call was made too, and what follows of two facts
 pub ok_too : {A E : Type 0} {P : Type 0} (r : Result A E) → P → OnOk r P
@@ -66,13 +66,13 @@ module _ {L : Type 0} (gives : L → Call → L → Type 0) where
       (more (tells s Advance (Ok tt)) [] from to to call (still to))
 
   -- a tick, with an advance behind it or without
-  pub beaten_on : (s t : NodeState) (k : Standstill) (from mid to : L) → is_advance_due (length (decided_prefix (node_step Tick s))) k ≡ true → gives from (tells s Tick (Ok tt)) mid
+  pub beaten_on : (s t : NodeState) (k : Standstill) (from mid to : L) → is_advance_due (found_in (node_step Tick s)) k ≡ true → gives from (tells s Tick (Ok tt)) mid
       → t ≡ node_step Tick s → Ran gives (advancing t) mid to → Ran gives (beating s k) from to
   beaten_on s t k from mid to due call step ran =
       more (tells s Tick (Ok tt)) _ from mid to call
       (subst (λ b. Ran gives (cond b (advancing (node_step Tick s)) []) mid to) (sym due) (subst (λ u. Ran gives (advancing u) mid to) step ran))
 
-  pub beaten : (s : NodeState) (k : Standstill) (from to : L) → is_advance_due (length (decided_prefix (node_step Tick s))) k ≡ false → gives from (tells s Tick (Ok tt)) to
+  pub beaten : (s : NodeState) (k : Standstill) (from to : L) → is_advance_due (found_in (node_step Tick s)) k ≡ false → gives from (tells s Tick (Ok tt)) to
       → Ran gives (beating s k) from to
   beaten s k from to due call =
       more (tells s Tick (Ok tt)) _ from to to call (subst (λ b. Ran gives (cond b (advancing (node_step Tick s)) []) to to) (sym due) (still to))

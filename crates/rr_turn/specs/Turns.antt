@@ -1,7 +1,8 @@
 -- What a node's thread calls in the parts of a turn, as a function of the node's state and of what it was answered.
-use Rattle.std.specs.Prelude.{ℕ, zero, suc, ◌+◌, ◌++◌, ◌∷◌, [], Bool, true, false, ◌==◌, not, if◌then◌else◌, List, length, Option, None, Some, Result, Ok, Err, is_some}
+use Rattle.std.specs.Prelude.{ℕ, zero, suc, ◌+◌, ◌++◌, ◌∷◌, [], Bool, true, false, ◌==◌, not, nat_le, count_ones, if◌then◌else◌, List, length, Option, None, Some, Result, Ok, Err, is_some}
 use Rattle.std.specs.Option.{option_map_or}
-use Rattle.rr_types.specs.Nodes.{has_member, with_member}
+use Rattle.rr_types.specs.Nodes.{has_member, with_member, without_member}
+use Rattle.rr_types.specs.Rounds.{majority_of}
 use Rattle.rr_types.specs.declared.message.Message.{Message}
 use Rattle.rr_types.specs.declared.message.Body.{Body}
 use Rattle.rr_types.specs.declared.message.Body.TheVariants.{Beat, Suspects}
@@ -13,6 +14,7 @@ use Rattle.rr_model.specs.NodeState.{NodeState, decided_prefix}
 use Rattle.rr_model.specs.NodeStep.{node_step, advance_refusal, next_leaving, message_left}
 use Rattle.rr_turn.specs.Recorded.{Sent}
 use Rattle.rr_turn.specs.Chases.{Chase, heard_of, chase_of, chase_sent, again, chase_again, chase_ticked, is_gaining}
+use Rattle.rr_turn.specs.declared.standstill.Found.{Found}
 use Rattle.rr_turn.specs.Ticks.{Standstill, is_advance_due, standstill_after}
 use Rattle.rr_turn.specs.declared.chase.Hearing.{Hearing}
 use Rattle.rr_turn.specs.declared.chase.Hearing.TheVariants.{Alone, Nothing, After, Before}
@@ -142,9 +144,17 @@ is_catching_up s c = is_gaining (length (decided_prefix s)) (chase_again (length
 abbrev pub advancing : NodeState → List Call
 advancing s = tells s Advance (if is_some (advance_refusal s) then Err RoundsOut else Ok tt) ∷ []
 
--- a tick, and an advance behind the tenth tick in a row that has found no more decided
+-- what a node finds at a tick; it disregards itself among its suspects
+abbrev pub found_in : NodeState → Found
+found_in s = record {
+  decided = length (decided_prefix s);
+  facts = s.marked_end;
+  has_majority = nat_le (majority_of s.nodes + count_ones (without_member s.suspects s.node)) s.nodes;
+}
+
+-- a tick, and an advance where one is due
 abbrev pub beating : NodeState → Standstill → List Call
-beating s k = tells s Tick (Ok tt) ∷ (let t = node_step Tick s in if is_advance_due (length (decided_prefix t)) k then advancing t else [])
+beating s k = tells s Tick (Ok tt) ∷ (let t = node_step Tick s in if is_advance_due (found_in t) k then advancing t else [])
 
 -- a tick is due: the node hears again what the chase has, and ticks, unless it is catching up
 abbrev pub ticking : NodeState → Chase → Standstill → List Call
@@ -156,4 +166,4 @@ ticked_chase s c = record (chase_again (length (decided_prefix s)) (chase_ticked
 
 -- the standstill then
 abbrev pub ticked_standstill : NodeState → Chase → Standstill → Standstill
-ticked_standstill s c k = if is_catching_up s c then k else standstill_after (length (decided_prefix (node_step Tick (heard_again s c)))) k
+ticked_standstill s c k = if is_catching_up s c then k else standstill_after (found_in (node_step Tick (heard_again s c))) k

@@ -1,24 +1,25 @@
 //! When a node ticks and advances.
 
-ghost use Rattle.std.specs.Prelude.{◌≡◌, [], ◌∷◌, true, false, length, IfOk, OnOk};
+ghost use Rattle.std.specs.Prelude.{◌≡◌, [], ◌∷◌, true, false, IfOk, OnOk};
 ghost use Rattle.std.specs.Option.{option_map_or};
 ghost use Rattle.std.specs.Duration.{as_nanos};
 ghost use Rattle.rr_types.specs.declared.input.Input.TheVariants as told;
-ghost use Rattle.rr_model.specs.NodeState.{NodeState, decided_prefix};
+ghost use Rattle.rr_model.specs.NodeState.{NodeState};
 ghost use Rattle.rr_model.specs.NodeStep.{node_step};
 ghost use Rattle.rr_turn.specs.Ticks.{is_tick_due, ticks_after, standstill_after};
 ghost use Rattle.rr_turn.specs.Asked.{Ran, hears};
 ghost use Rattle.rr_turn.specs.Looks.{TicksFrom, Ticked};
-ghost use Rattle.rr_turn.specs.Turns.{heard_again, hearing_again, is_catching_up, ticked_chase, advancing, beating};
+ghost use Rattle.rr_turn.specs.Turns.{heard_again, hearing_again, is_catching_up, ticked_chase, advancing, found_in, beating};
 
 use crate::chase::Chase;
 use crate::hearing::hear_all;
 use crate::links::Links;
 use crate::locked::Locked;
 use crate::sent::Sent;
-use crate::standstill::Standstill;
+use crate::standstill::{Found, Standstill};
 use crate::ticks::Ticks;
-use rr_types::{Input, Refusal};
+use rr_core::Core;
+use rr_types::{Input, Refusal, majority};
 use std::sync::{Mutex, Wait};
 use std::time::Duration;
 
@@ -69,6 +70,19 @@ fn advance<L: Links>(locked: &mut Locked, links: &mut L) -> Result<(), Refusal>
     }
 }
 
+/// What a node finds at a tick.
+fn found_in(core: &Core) -> Found
+    ensures { result ≡ found_in core.now }
+{
+    let suspects = core.suspects().without(core.node());
+    Found {
+        decided: core.decided_count(),
+        facts: core.facts(),
+        has_majority: u32::from(majority(core.nodes())) + suspects.bits().count_ones()
+            <= u32::from(core.nodes().count()),
+    }
+}
+
 /// The node ticks, and advances where it has got no further.
 fn beat<L: Links>(
     locked: &mut Locked,
@@ -76,10 +90,10 @@ fn beat<L: Links>(
     standstill: &mut Standstill,
 ) -> Result<(), Refusal>
     ensures calls { OnOk result (Ran L.gives (beating locked.old standstill.old) links.old links.new) }
-    ensures standstill { OnOk result (standstill.new ≡ standstill_after (length (decided_prefix (node_step told.Tick locked.old))) standstill.old) }
+    ensures standstill { OnOk result (standstill.new ≡ standstill_after (found_in (node_step told.Tick locked.old)) standstill.old) }
 {
     links.tell(locked, &Input::Tick)?;
-    if standstill.count(locked.core().decided_count()) {
+    if standstill.count(found_in(locked.core())) {
         advance(locked, links)
     } else {
         Ok(())

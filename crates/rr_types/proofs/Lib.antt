@@ -1,3 +1,4 @@
 pub mod NodeLemmas
+pub mod PartLemmas
 pub mod ShortLemmas
 pub mod StandingLemmas

@@ -40,7 +40,7 @@ mod standing;
 mod summary;
 
 pub use binding::Binding;
-pub use command::{Command, Op, OpKind, Reply, RequestNo};
+pub use command::{Command, Op, OpKind, Operand, Reply, ReplyKind, RequestNo, Shape};
 pub use event::NodeEvent;
 pub use fact::{Estimate, Fact, GROUP, Group};
 pub use input::Input;

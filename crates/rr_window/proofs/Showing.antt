@@ -8,7 +8,8 @@ use Rattle.rr_registry.specs.Kept.{Kept, applied, applied_all, kept_of}
 use Rattle.rr_types.specs.Registry.{holding_of}
 use Rattle.rr_registry.proofs.KeptLemmas.{bindings-kept_of}
 use Rattle.rr_window.specs.Lists.{Beginning, beginning}
-use Rattle.rr_window.specs.Changes.{name_of, change_between, change_of}
+use Rattle.rr_types.specs.Commands.{op_name}
+use Rattle.rr_window.specs.Changes.{change_between, change_of}
 use Rattle.rr_window.specs.Watches.{trace_of, with_trace, kept_traces}
 use Rattle.rr_window.proofs.Watching.{kept_more}
 use Rattle.rr_window.specs.Windows.{Publishing, Addition, Served, IsServed, IsShown, GoOn, trace_in, with_addition, served_of, commands_of}
@@ -22,7 +23,7 @@ pub all_after : (b : Book) (list : List Command) (es : List Addition) → GoOn b
 all_after b list [] go = ap (served_of b) (sym (append-nil list))
 all_after b list (e ∷ es) go =
     let after : applied (kept_of list) e.command ≡ kept_of (list ++ e.command ∷ []) = sym (applied_more (kept_of []) list e.command) in
-    let name = name_of e.command.op in
+    let name = op_name e.command.op in
     let change : (trace_in (kept_of list) e).change ≡ change_of list e.command = λ i. change_between name (holding_of (bindings-kept_of list i) name) (holding_of ((ap (λ k. k.bindings) after ∙ bindings-kept_of (list ++ e.command ∷ [])) i) name) in
     let trace : trace_in (kept_of list) e ≡ trace_of b list e.command = λ i. record { beginning = go.0 i; change = change i } in
     let recent : with_trace (kept_traces b list) (trace_in (kept_of list) e) ≡ kept_traces b (list ++ e.command ∷ []) = ap (with_trace (kept_traces b list)) trace ∙ kept_more b list e.command in

@@ -1,20 +1,12 @@
 -- The changes of names that commands make, one after another.
 use Rattle.std.specs.Prelude.{ℕ, Bool, true, false, ◌&&◌, ◌==◌, if◌then◌else◌, List, [], ◌∷◌, ◌++◌, Option, None, Some}
 use Rattle.std.specs.Str.{bytes_eq}
-use Rattle.rr_types.specs.declared.command.Op.{Op}
-use Rattle.rr_types.specs.declared.command.Op.TheVariants.{Claim, Update, Release, Transfer}
 use Rattle.rr_types.specs.declared.command.Command.{Command}
+use Rattle.rr_types.specs.Commands.{op_name}
 use Rattle.rr_types.specs.Registry.{Holding, holding_of, registry_of}
 use Rattle.rr_window.specs.declared.change.Change.{Change}
 use Rattle.rr_window.specs.declared.change.Change.TheVariants.{Bound, Freed}
 use Rattle.rr_window.specs.Sights.{begins_with}
-
--- the name that an operation is about
-abbrev pub name_of : Op → List ℕ
-name_of (Claim name value) = name
-name_of (Update name value) = name
-name_of (Release name) = name
-name_of (Transfer name owner) = name
 
 -- whether a name has the same owner and value, or nobody has it both times
 abbrev pub is_same_holding : Option Holding → Option Holding → Bool
@@ -34,7 +26,7 @@ change_between name before after = if is_same_holding before after then None els
 -- the change that a command makes behind a list
 abbrev pub change_of : List Command → Command → Option Change
 change_of list c =
-    change_between (name_of c.op) (holding_of (registry_of list) (name_of c.op)) (holding_of (registry_of (list ++ c ∷ [])) (name_of c.op))
+    change_between (op_name c.op) (holding_of (registry_of list) (op_name c.op)) (holding_of (registry_of (list ++ c ∷ [])) (op_name c.op))
 
 -- the name that changed
 abbrev pub changed_name : Change → List ℕ

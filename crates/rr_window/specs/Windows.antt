@@ -7,7 +7,8 @@ use Rattle.rr_types.specs.declared.command.Reply.{Reply}
 use Rattle.rr_registry.specs.Kept.{Kept, applied, kept_of}
 use Rattle.rr_types.specs.Registry.{holding_of}
 use Rattle.rr_window.specs.Lists.{Beginning, beginning}
-use Rattle.rr_window.specs.Changes.{name_of, change_between}
+use Rattle.rr_types.specs.Commands.{op_name}
+use Rattle.rr_window.specs.Changes.{change_between}
 use Rattle.rr_window.specs.Watches.{Trace, with_trace, kept_traces}
 
 -- what is published, and what was appended since
@@ -44,7 +45,7 @@ pub record Served : Type 0 where
 -- the trace of an addition to what a registry keeps
 abbrev pub trace_in : Kept → Addition → Trace
 trace_in k a =
-    let name = name_of a.command.op in
+    let name = op_name a.command.op in
     record { beginning = a.beginning; change = change_between name (holding_of k.bindings name) (holding_of (applied k a.command).bindings name) }
 
 -- what they are served after an addition

@@ -1,10 +1,10 @@
 //! Changes of names.
 
 ghost use Rattle.std.specs.Prelude.{◌≡◌};
-ghost use Rattle.rr_window.specs.Changes.{name_of, is_same_holding, change_to, change_between, changed_name};
+ghost use Rattle.rr_window.specs.Changes.{is_same_holding, change_to, change_between, changed_name};
 
 use rr_registry::Holding;
-use rr_types::{Binding, Name, Op, Value, made_of};
+use rr_types::{Binding, Name, Value, made_of};
 
 /// A change of a name.
 #[derive(Clone, Copy, Debug)]
@@ -24,16 +24,6 @@ impl Change {
             Change::Bound(binding) => &binding.name,
             Change::Freed(name) => name,
         }
-    }
-}
-
-/// The name that an operation is about.
-pub(crate) fn name_of(op: &Op) -> &Name
-    ensures { result.now ≡ name_of op.now }
-{
-    match op {
-        Op::Claim(name, _) | Op::Update(name, _) | Op::Release(name) | Op::Transfer(name, _) =>
-            name,
     }
 }
 

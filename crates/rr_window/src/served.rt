@@ -8,7 +8,7 @@ ghost use Rattle.rr_window.specs.Sights.{bindings_with};
 ghost use Rattle.rr_window.specs.Windows.{with_addition};
 
 use crate::addition::Addition;
-use crate::change::{change_between, name_of};
+use crate::change::change_between;
 use crate::list::{Beginning, WindowName};
 use crate::listing::bindings_with;
 use crate::trace::{Trace, keep};
@@ -93,7 +93,7 @@ impl Absorb<Addition> for Served {
 
     fn absorb_first(&mut self, addition: &Addition, _other: &Served) -> Result<(), AllocError> {
         let command = addition.command();
-        let name = *name_of(&command.op);
+        let name = *command.op.name();
         self.recent.reserve(1)?;
         let before = self.registry.entry(&name);
         if self.registry.apply(&command).is_err() {

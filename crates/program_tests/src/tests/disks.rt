@@ -2,6 +2,7 @@
 
 use rr_cli::{execute, migrate_disk, show_disk};
 use rr_disk::{Area, Disk, FailingDisk, MemDisk};
+use rr_run::{Lockable, MarkWriter};
 use rr_stream::{Counted, HostFiles};
 use rr_types::{NodeId, Nodes, Refusal};
 use std::alloc::Global;
@@ -73,9 +74,9 @@ fn migrates_disks_of_any_kind(rt: HostRuntime) {
 }
 
 /// Asserts that `rr show` tells a folder as a fault of the device.
-fn assert_device<R: Files + AllocGlobal + Abort>(rt: &R, folder: &str)
+fn assert_device<R: Files + AllocGlobal + MarkWriter + Abort>(rt: &R, folder: &str)
 where
-    R::File: FileExt,
+    R::File: FileExt + Lockable,
 {
     let mut out = Counted::new(Vec::new(rt.alloc()));
     let mut err = Vec::new(rt.alloc());

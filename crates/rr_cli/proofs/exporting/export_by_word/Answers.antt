@@ -1,5 +1,5 @@
 use Rattle.std.proofs.Common.{List, ℕ, option_map, Bor, refl, ap}
-use Rattle.rr_cli.specs.Ends.{named, unexported}
+use Rattle.rr_cli.specs.Ends.{named, not_locked}
 use Rattle.rr_cli.proofs.exporting.export_by_word.Goals as goal
 
 pub returns-in-Ok-clause-ends : goal.returns-in-Ok-clause-ends
@@ -8,4 +8,4 @@ returns-in-Ok-clause-ends g c =
 
 pub returns-in-Err-clause-ends : goal.returns-in-Err-clause-ends
 returns-in-Err-clause-ends g c =
-    named c.in-Some.dir.now (ap (option_map (λ (s : Bor (List ℕ)). s.now)) c.in-Some.is) (unexported c.end_by_refusal.ensures refl)
+    named c.in-Some.dir.now (ap (option_map (λ (s : Bor (List ℕ)). s.now)) c.in-Some.is) (not_locked c.end_by_unlocked.ensures refl)

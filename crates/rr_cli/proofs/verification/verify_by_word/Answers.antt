@@ -1,11 +1,11 @@
-use Rattle.std.proofs.Common.{List, ℕ, option_map, Bor, refl, ap}
-use Rattle.rr_cli.specs.Ends.{named, unverified}
+use Rattle.std.proofs.Common.{List, ℕ, option_map, Bor, true, refl, ap}
+use Rattle.rr_cli.specs.Ends.{named, unlocked}
 use Rattle.rr_cli.proofs.verification.verify_by_word.Goals as goal
 
 pub returns-in-Ok-clause-ends : goal.returns-in-Ok-clause-ends
 returns-in-Ok-clause-ends g c =
-    named c.in-Some.dir.now (ap (option_map (λ (s : Bor (List ℕ)). s.now)) c.in-Some.is) c.verify_readings.ensures.ends
+    named c.in-Some.dir.now (ap (option_map (λ (s : Bor (List ℕ)). s.now)) c.in-Some.is) (_, c.verify_readings.ensures.ends)
 
 pub returns-in-Err-clause-ends : goal.returns-in-Err-clause-ends
 returns-in-Err-clause-ends g c =
-    named c.in-Some.dir.now (ap (option_map (λ (s : Bor (List ℕ)). s.now)) c.in-Some.is) (unverified c.end_by_refusal.ensures refl)
+    named c.in-Some.dir.now (ap (option_map (λ (s : Bor (List ℕ)). s.now)) c.in-Some.is) (true, unlocked c.end_by_unlocked.ensures refl)

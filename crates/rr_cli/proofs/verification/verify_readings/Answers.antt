@@ -16,7 +16,7 @@ returns-then-verdict-clause-ends g c =
     let is : text ≡ verdict_text (form_in c.args.form) c.args.readings.now v.clashes.items v.agree =
     c.in-Ok-verdict_text.ensures.ok ∙ ap (λ (f : fields.Form). verdict_text f c.args.readings.now v.clashes.items v.agree) c.form_in.ensures in
     let prints = subst (λ (t : List ℕ). Prints t c.end_by_text-printing.result (g.O.Sink.printing c.args.out.now) (g.O.Sink.printing c.end_by_text-printing.new.out)) c.as_slice.ensures.value c.end_by_text-printing.ensures.ends in
-    agreed_ends c.args.form c.args.readings.now v text c.end_by_text-printing.result _ _ c.requires c.in-Ok.ensures.agree c.in-Ok.ensures.one_list c.in-Ok.ensures.clashes is c.if-verdict.true prints
+    agreed_ends c.args.form c.args.judged.now c.args.readings.now v text c.end_by_text-printing.result _ _ c.requires.read c.in-Ok.ensures.agree c.in-Ok.ensures.one_list c.requires.judged c.in-Ok.ensures.clashes is c.if-verdict.true prints
 
 pub returns-in-Ok-verdict_text-clause-ends : goal.returns-in-Ok-verdict_text-clause-ends
 returns-in-Ok-verdict_text-clause-ends g c =
@@ -25,4 +25,4 @@ returns-in-Ok-verdict_text-clause-ends g c =
     let is : text ≡ verdict_text (form_in c.args.form) c.args.readings.now v.clashes.items v.agree =
     c.in-Ok-verdict_text.ensures.ok ∙ ap (λ (f : fields.Form). verdict_text f c.args.readings.now v.clashes.items v.agree) c.form_in.ensures in
     let prints = subst (λ (t : List ℕ). Prints t c.end_by_text-printing.result (g.O.Sink.printing c.args.out.now) (g.O.Sink.printing c.end_by_text-printing.new.out)) c.as_slice.ensures.value c.end_by_text-printing.ensures.ends in
-    disagreed_ends c.args.form c.args.readings.now v text c.end_by_text-printing.result c.unlike.result _ _ c.requires c.in-Ok.ensures.agree c.in-Ok.ensures.clashes is c.if-verdict.false prints c.unlike.ensures
+    disagreed_ends c.args.form c.args.judged.now c.args.readings.now v text c.end_by_text-printing.result c.unlike.result _ _ c.requires.read c.in-Ok.ensures.agree c.in-Ok.ensures.clashes is c.if-verdict.false prints c.unlike.ensures

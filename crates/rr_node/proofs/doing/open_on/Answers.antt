@@ -1,36 +1,24 @@
-use Rattle.std.proofs.Common.{◌≡◌, true, false, inl, Option, Ok, Err, refl, sym, subst, ◌∙◌}
-use Rattle.std.specs.Prelude.{IfOk}
-use Rattle.rr_types.specs.Counts.{counted}
+use Rattle.std.proofs.Common.{◌≡◌, true, false, inl, Err, refl, sym, ◌∙◌}
 use Rattle.rr_types.specs.declared.event.NodeEvent.TheVariants as at
-use Rattle.rr_disk.specs.Failing.{FailingRead, FailingWrite, FailingSync}
-use Rattle.rr_disk.specs.Memory.{MemoryRead, MemoryWrite, MemorySync}
-use Rattle.rr_journal.specs.declared.opening.End.{End}
-use Rattle.rr_journal.specs.declared.opening.Progress.{Progress}
-use Rattle.rr_journal.specs.Fronts.{KnowsOther}
-use Rattle.rr_journal.specs.OpeningSteps.{Steps, MaySnap}
-use Rattle.rr_journal.specs.OpeningTable.{ComesToAny, disk_after}
-use Rattle.rr_journal.specs.StepsInPlace.{as_progress}
 use Rattle.rr_node.specs.declared.doing.Doing.TheVariants as does
-use Rattle.rr_node.specs.Views.{NodeDisk, areas_in, Ended}
 use Rattle.rr_node.proofs.CallLaws.{carried}
-use Rattle.rr_node.proofs.OpeningLaws.{opens_fallen, opens_stopped}
+use Rattle.rr_node.proofs.OpeningLaws.{opens_fallen, opens_stopped, an_end, ended_there}
 use Rattle.rr_node.proofs.doing.open_on.Goals as goal
 use Rattle.rr_node.proofs.doing.open_on.Goals.{then-is_device, else-is_device}
 
-pub returns-in-Ok-Some : goal.returns-in-Ok-Some
-returns-in-Ok-Some c n p =
+pub close-requires : goal.close-requires
+close-requires c =
+    let found = an_end c.step_on.new.self.end (c.in-Ok-Ended.ensures.ended.1 c.in-Ok-Ended.field-0-is) in
+    (c.step_on.new.self, refl, (found.0, found.1, (c.in-Opening.opening, ended_there c.in-Opening.opening c.step_on.new.self found.0 c.in-Ok-Ended.field-0 c.in-Ok-Ended.field-0-is found.1 c.in-Ok-Ended.ensures.exact (c.in-Ok-Ended.ensures.comes tt) (c.in-Ok-Ended.ensures.fronts tt) c.in-Ok-Ended.ensures.snapshot c.in-Ok-Ended.ensures.call)))
+
+pub returns-in-Ok-Ended : goal.returns-in-Ok-Ended
+returns-in-Ok-Ended c n p =
     let old = c.in-Opening.opening in
     let new = c.step_on.new.self in
-    let gave = c.in-Ok-Some.ensures in
-    let is = c.in-Ok-Some.field-0-is in
-    let ended : Ended old new c.in-Ok-Some.end = record {
-      steps = subst (λ (x : Option End). Steps (FailingRead MemoryRead) (FailingWrite MemoryWrite) (FailingSync MemorySync) old (as_progress {D = NodeDisk} new (Ok x))) is gave.exact;
-      comes = subst (λ (x : Option End). IfOk (as_progress {D = NodeDisk} new (Ok x)) (λ (y : Progress NodeDisk). ComesToAny {D = NodeDisk} areas_in y)) is (gave.comes tt);
-      knows = subst (λ (x : Option End). IfOk (as_progress {D = NodeDisk} new (Ok x)) (λ (y : Progress NodeDisk). KnowsOther {D = NodeDisk} areas_in y)) is (gave.fronts tt);
-      snaps = subst (λ (x : Option End). IfOk (as_progress {D = NodeDisk} new (Ok x)) (λ (y : Progress NodeDisk). MaySnap {D = NodeDisk} y)) is gave.snapshot;
-      calls = subst (λ (x : Option End). (disk_after {D = NodeDisk} (as_progress {D = NodeDisk} new (Ok x))).calls ≡ counted old.disk.calls) is gave.call;
-    } in
-    carried n p at.Device at.Device c.args.doing.now (does.Opening old) c.close.new.doing c.close.new.doing c.close.result refl c.in-Opening.is refl (c.close.ensures new refl n p old ended)
+    let gave = c.in-Ok-Ended.ensures in
+    let found = an_end new.end (gave.ended.1 c.in-Ok-Ended.field-0-is) in
+    let ended = ended_there old new found.0 c.in-Ok-Ended.field-0 c.in-Ok-Ended.field-0-is found.1 gave.exact (gave.comes tt) (gave.fronts tt) gave.snapshot gave.call in
+    carried n p at.Device at.Device c.args.doing.now (does.Opening old) c.close.new.doing c.close.new.doing c.close.result refl c.in-Opening.is refl (c.close.ensures new refl found.0 found.1 n p old ended)
 
 pub returns-after-is_device : goal.returns-after-is_device
 returns-after-is_device c n p =

@@ -9,8 +9,8 @@ returns-in-Err-clause-ends g c = refused c.end_by_closed.ensures.0 c.end_by_clos
 pub returns-in-Ok-ran-clause-ends : goal.returns-in-Ok-ran-clause-ends
 returns-in-Ok-ran-clause-ends g c = c.end_by_answers.ensures.ends None
 
-pub returns-in-Err-ran-clause-ends : goal.returns-in-Err-ran-clause-ends
-returns-in-Err-ran-clause-ends g c = refused c.in-Err-ran.refusal c.end_by_run_fault.ensures refl
+pub returns-clause-ends : goal.returns-clause-ends
+returns-clause-ends g c = refused c.in-Err-ran.refusal c.end_by_run_fault.ensures refl
 
 pub returns-in-Ok-ran-clause-quiet : goal.returns-in-Ok-ran-clause-quiet
 returns-in-Ok-ran-clause-quiet g c = λ ended.

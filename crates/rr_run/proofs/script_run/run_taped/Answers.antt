@@ -6,8 +6,8 @@ use Rattle.rr_run.proofs.script_run.run_taped.Goals as goal
 pub returns-in-Err-clause-ends : goal.returns-in-Err-clause-ends
 returns-in-Err-clause-ends g c = refused c.end_by_closed.ensures.0 c.end_by_closed.ensures.1 refl
 
-pub returns-in-Err-ran-clause-ends : goal.returns-in-Err-ran-clause-ends
-returns-in-Err-ran-clause-ends g c = refused c.in-Err-ran.refusal c.end_by_run_fault.ensures refl
+pub returns-clause-ends : goal.returns-clause-ends
+returns-clause-ends g c = refused c.in-Err-ran.refusal c.end_by_run_fault.ensures refl
 
 pub returns-in-Ok-ran-clause-quiet : goal.returns-in-Ok-ran-clause-quiet
 returns-in-Ok-ran-clause-quiet g c = λ ended.

@@ -1,0 +1,25 @@
+-- What a survey of the folders of a cluster has found, and what comes of it.
+use Rattle.std.specs.Prelude.{◌≡◌, ℕ, Result, Ok, Err, IfOk}
+use Rattle.rr_folders.specs.declared.cluster.Cluster.{Cluster}
+use Rattle.rr_folders.specs.declared.judging.Verdict.{Verdict}
+use Rattle.rr_folders.specs.declared.judging.Verdict.TheVariants.{Open, Begin, TakeOn, Refused}
+use Rattle.rr_folders.specs.declared.closed.Closed.{Closed}
+use Rattle.rr_folders.specs.declared.closed.Closed.TheVariants as closed
+
+-- for how many nodes the folders were looked through, and what is to be done with them
+pub record Surveyed : Type 0 where
+  pub nodes : ℕ
+  pub verdict : Verdict
+
+-- the cluster of n nodes whose disks may be opened by a verdict: the one that goes on, as it is; one of n nodes that begins or is taken on, if
+-- it can be written; and none by a refusal, which is told
+abbrev pub IsPrepared : ℕ → Verdict → Result Cluster Closed → Type 0
+IsPrepared n (Open cluster) r = r ≡ Ok cluster
+IsPrepared n Begin r = IfOk r (λ cluster. cluster.nodes ≡ n)
+IsPrepared n (TakeOn named) r = IfOk r (λ cluster. cluster.nodes ≡ n)
+IsPrepared n (Refused p fault) r = r ≡ Err (closed.Refused p fault)
+
+-- disks may be opened by any verdict but a refusal
+abbrev pub MayBeOpened : Verdict → Type 0
+MayBeOpened (Refused p fault) = ⊥
+MayBeOpened verdict = Unit {0}
