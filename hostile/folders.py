@@ -76,9 +76,9 @@ class Folder:
     def at(self, name):
         return os.path.join(self.path, name)
 
-    def run(self, *words, limit=LIMIT, **options):
+    def run(self, *words, limit=LIMIT, program=None, **options):
         """What rr ends with by these words, in the folder: its status, none where it hangs, and what it prints."""
-        words = ["sh", "-c", f'ulimit -v {MEMORY >> 10}; exec "$@"', "sh", self.rig.rr, *words]
+        words = ["sh", "-c", f'ulimit -v {MEMORY >> 10}; exec "$@"', "sh", program or self.rig.rr, *words]
         try:
             ran = subprocess.run(words, cwd=self.path, stdin=subprocess.DEVNULL, capture_output=True, timeout=limit, env={}, check=False, **options)
         except subprocess.TimeoutExpired:
@@ -169,10 +169,13 @@ class Folder:
         for name in FILES:
             os.chmod(self.at(name), 0o444)
         os.chmod(self.rig.folder, 0o755)
-        as_nobody = {"user": 65534, "group": 65534, "extra_groups": []} if os.geteuid() == 0 else {}
-        for words in READERS:
-            got = self.run(*words, **as_nobody)
-            self.check(got[0] == 0, f"{words} where nothing may be written: {got}")
+        # Nobody may not look into the folder that the program lies in, so it comes as an open file.
+        with open(self.rig.rr, "rb") as program:
+            as_nobody = {"user": 65534, "group": 65534, "extra_groups": []} if os.geteuid() == 0 else {}
+            as_nobody |= {"program": f"/proc/self/fd/{program.fileno()}", "pass_fds": (program.fileno(),)}
+            for words in READERS:
+                got = self.run(*words, **as_nobody)
+                self.check(got[0] == 0, f"{words} where nothing may be written: {got}")
 
     def hold(self, name, how, ending):
         """Runs each command while somebody has a lock on a folder."""
