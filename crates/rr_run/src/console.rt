@@ -11,8 +11,9 @@ ghost use Rattle.rr_run.specs.Numbers.{greatest_told, HaveTold, IsNext, IsBehind
 
 use crate::asking::{Question, Told, is_written, listing_in, outcome_in, sight_in, summary_in};
 use crate::board::{Board, ask, switch, wait_until_begun};
+use crate::failures::failure_text;
 use crate::news::{Ear, next_changes};
-use rr_folders::{Block, Locks};
+use rr_folders::{Block, Locks, Reasons};
 use rr_shell::{Asked, Hint, Listing, NodeStatus, Outcome, is_nearly_full, left_behind};
 use rr_text::Answer;
 use rr_types::{Command, Name, NodeId, Nodes, Op, Refusal, Reply, RequestNo, Value, made_of};
@@ -28,6 +29,7 @@ use std::sync::Wait;
 #[derive(Drop)]
 pub(crate) struct Console<'x, B, F, R> {
     pub(crate) rt: &'x R,
+    pub(crate) reasons: &'x Reasons,
     pub(crate) locks: Locks<F>,
     pub(crate) nodes: Nodes,
     pub(crate) client: u32,
@@ -317,10 +319,11 @@ impl<
     }
 
     fn stop(&mut self, node: NodeId) -> Result<(), Refusal> {
-        switch(&mut self.board, self.rt, node, false)
+        let _is_down = switch(&mut self.board, self.rt, node, false)?;
+        Ok(())
     }
 
-    fn start(&mut self, node: NodeId) -> Result<(), Refusal> {
+    fn start(&mut self, node: NodeId) -> Result<bool, Refusal> {
         switch(&mut self.board, self.rt, node, true)
     }
 
@@ -333,14 +336,24 @@ impl<
     }
 
     fn status(&mut self, node: NodeId) -> Result<NodeStatus, Refusal> {
-        if !self.board.is_on(node) {
-            return Ok(NodeStatus {
-                node,
-                summary: None,
-            });
+        if self.board.is_on(node) {
+            let told = ask(&mut self.board, self.rt, &Question::Summary { node })?;
+            if let Some(summary) = summary_in(&told) {
+                return Ok(NodeStatus {
+                    node,
+                    summary: Some(summary),
+                    failure: None,
+                });
+            }
         }
-        let told = ask(&mut self.board, self.rt, &Question::Summary { node })?;
-        let summary = summary_in(&told);
-        Ok(NodeStatus { node, summary })
+        let failure = match self.board.failure(self.rt, node) {
+            Some(refusal) => Some(failure_text(self.rt.alloc(), self.reasons, node, &refusal)?),
+            None => None,
+        };
+        Ok(NodeStatus {
+            node,
+            summary: None,
+            failure,
+        })
     }
 }

@@ -112,6 +112,7 @@ where
     };
     let console = Console {
         rt,
+        reasons: &reasons,
         locks,
         nodes,
         client,
@@ -125,7 +126,15 @@ where
     let talked = talk_beside(
         rt, nodes, disks, clients, &post, json, strict, console, input, out,
     );
-    end_by_talk(rt, err, dir, nodes, &reasons, talked, post.into_refusal())
+    end_by_talk(
+        rt,
+        err,
+        dir,
+        nodes,
+        &reasons,
+        talked,
+        post.into_refusal(rt, nodes),
+    )
 }
 
 // Ends by a file of request numbers that none can be reserved in. A second line tells it.
