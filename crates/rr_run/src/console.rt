@@ -16,7 +16,9 @@ use crate::news::{Ear, next_changes};
 use rr_folders::{Block, Locks, Reasons};
 use rr_shell::{Asked, Hint, Listing, NodeStatus, Outcome, is_nearly_full, left_behind};
 use rr_text::Answer;
-use rr_types::{Command, Name, NodeId, Nodes, Op, Refusal, Reply, RequestNo, Value, made_of};
+use rr_types::{
+    Command, Name, NodeId, NodeSet, Nodes, Op, Refusal, Reply, RequestNo, Value, made_of,
+};
 use rr_window::Change;
 use std::fs::OpenFile;
 use std::io::{Read, Seek, Write};
@@ -25,7 +27,7 @@ use std::rt::Files;
 use std::sync::Wait;
 
 /// The nodes that a shell asks, as this client, with the request numbers of a folder that is locked; the command that isn't
-/// acknowledged and may be asked again; what a person is to be told; and where the changes are heard that are watched.
+/// acknowledged and may be asked again; what a person is to be told; where the changes are heard that are watched; and of which failed nodes a person was told.
 #[derive(Drop)]
 pub(crate) struct Console<'x, B, F, R> {
     pub(crate) rt: &'x R,
@@ -39,6 +41,7 @@ pub(crate) struct Console<'x, B, F, R> {
     pub(crate) hint: Option<Hint>,
     pub(crate) has_warned: bool,
     pub(crate) ear: Option<Ear>,
+    pub(crate) failed: NodeSet,
 }
 
 // The command that is kept to be asked again, behind what a submit of it has come to.
@@ -219,6 +222,22 @@ impl<
         Ok(outcome_in(node, request, &told))
     }
 
+    // A node that has failed since a person was told of it last.
+    fn take_failed(&mut self) -> Option<NodeId>
+        ensures kept { self.new.unanswered ≡ self.old.unanswered }
+    {
+        for index in 0..self.nodes.count() {
+            let node = NodeId::new(self.nodes, index)?;
+            if self.board.failure(self.rt, node).is_none() {
+                self.failed = self.failed.without(node);
+            } else if !self.failed.contains(node) {
+                self.failed = self.failed.with(node);
+                return Some(node);
+            }
+        }
+        None
+    }
+
     // What a person is told now, and then no more.
     fn take_hint(&mut self) -> Option<Hint>
         ensures told { result ≡ self.old.hint }
@@ -271,7 +290,10 @@ impl<
     }
 
     fn hint(&mut self) -> Option<Hint> {
-        self.take_hint()
+        match self.take_hint() {
+            Some(hint) => Some(hint),
+            None => Some(Hint::Failed(self.take_failed()?)),
+        }
     }
 
     fn look(&mut self, node: NodeId, name: &Name) -> Result<Answer, Refusal> {

@@ -151,6 +151,8 @@ pub enum Hint {
     Again,
     /// So few commands can still be decided.
     Left(u64),
+    /// This node has failed.
+    Failed(NodeId),
 }
 
 /// Whether this came of a submit at this node.
