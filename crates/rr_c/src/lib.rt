@@ -261,7 +261,6 @@ pub extern "C" fn rr_bound(
     out: &mut [u8],
 ) -> u32
     ensures ok { result ≡ 0 → (found : Option (List ℕ × Holding)) × (read (of_core (λ s. slice_get (registry_of (decided_prefix s)) place)) (node_in node.old) ≡ Ok found) × Binds found binding.new name.new out.new }
-    ensures why { result ≢ 0 → (state_in (node_in node.old) ≡ None) ⊎ ((x : List ℕ × Holding) × (read (of_core (λ s. slice_get (registry_of (decided_prefix s)) place)) (node_in node.old) ≡ Ok (Some x)) × ((length name.old < length x.0) ⊎ (length out.old < length x.1.value))) }
     ensures same { node_in node.new ≡ node_in node.old }
 {
     *binding = NO_BINDING;
