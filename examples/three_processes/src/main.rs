@@ -163,10 +163,40 @@ impl Process {
     }
 }
 
+impl Process {
+    /// An opening may write, too. Nobody is heard before it has ended.
+    fn open(&mut self, node: &mut Node) -> Result<(), Box<dyn Error>> {
+        self.serve(node)?;
+        while !node.is_up() {
+            node.done(self.areas.end()?)?;
+            self.serve(node)?;
+        }
+        Ok(())
+    }
+
+    /// The loop of a host.
+    fn run(&mut self, node: &mut Node) -> Result<(), Box<dyn Error>> {
+        let mut room = vec![0; 1 << 16];
+        let mut next = Instant::now();
+        loop {
+            self.serve(node)?;
+            self.flush();
+            for source in self.wait(next.saturating_duration_since(Instant::now()))? {
+                self.take(node, source, &mut room)?;
+            }
+            if next <= Instant::now() {
+                next = Instant::now() + TICK;
+                self.links.values_mut().for_each(Link::connect);
+                node.tick()?;
+            }
+        }
+    }
+}
+
 /// A message came.
 fn hear(node: &mut Node, bytes: &[u8]) {
     match node.hear(bytes) {
-        Ok(()) | Err(Refusal::OutOfMemory | Refusal::Down) => (),
+        Ok(()) | Err(Refusal::OutOfMemory) => (),
         Err(refusal) => eprintln!("a message is {refusal}"),
     }
 }
@@ -219,31 +249,12 @@ fn run(nodes: u8, number: u8, folder: &Path, port: u16, is_new: bool) -> Result<
         waiting: HashMap::new(),
         count: 0,
     };
-    let mut room = vec![0; 1 << 16];
-    let mut next = Instant::now();
-    let mut was_up = false;
-    loop {
-        process.serve(&mut node)?;
-        if node.is_up() && !was_up {
-            was_up = true;
-            println!("node {number} of {nodes} is up: {} commands are decided", node.status()?.decided);
-            if !is_new {
-                ask_where_others_are(&mut node, number)?;
-                continue;
-            }
-        }
-        process.flush();
-        for source in process.wait(next.saturating_duration_since(Instant::now()))? {
-            process.take(&mut node, source, &mut room)?;
-        }
-        if next <= Instant::now() {
-            next = Instant::now() + TICK;
-            process.links.values_mut().for_each(Link::connect);
-            if was_up {
-                node.tick()?;
-            }
-        }
+    process.open(&mut node)?;
+    println!("node {number} of {nodes} is up: {} commands are decided", node.status()?.decided);
+    if !is_new {
+        ask_where_others_are(&mut node, number)?;
     }
+    process.run(&mut node)
 }
 
 fn main() -> Result<(), Box<dyn Error>> {
