@@ -3,7 +3,7 @@
    or random bytes. Writes are made, or fail and are torn. Handles are closed and opened again, also over bytes that are no area. With the linker's
    --wrap of malloc, realloc and free a request for memory fails now and then.
 
-   Each answer has to be one that its call may give there. A refused call that changes nothing leaves the node as it stood. A node that is down
+   First each refusal is made in turn, and the handle works behind it, or is down. Each answer has to be one that its call may give there. A refused call that changes nothing leaves the node as it stood. A node that is down
    refuses all but its status. Nothing is written behind a buffer, nor behind what the call says that it wrote. A real message is never
    malformed. What a node had decided it has still, also behind its close or a torn write. The last line is how often each answer came. A liar says
    that writes are done that it hasn't made: this must fail. */
@@ -327,7 +327,7 @@ static void make_write(struct node *it, size_t most) {
 }
 
 static void call_done(struct node *it, int is_done) {
-  if (it->is_due == UNKNOWN || (it->is_due && !it->due_bytes)) call_due(it, 1 << 20);
+  if (it->is_due == UNKNOWN || (it->is_due && !it->due_bytes)) call_due(it, 1 << 18);
   if (it->is_due == UNKNOWN) return;
   int was_due = it->is_due;
   if (was_due && !(is_liar && is_done && is_one_of(50))) make_write(it, is_done ? it->due.len : below(it->due.len + 1));
@@ -442,7 +442,7 @@ static void open_node(struct cluster *all, struct node *it) {
 static void settle(struct cluster *all, struct node *it) {
   if (it->is_closed) open_node(all, it);
   for (int times = 0; times < 40 && !it->is_closed && !it->is_down; times++) {
-    call_due(it, 1 << 16);
+    call_due(it, 1 << 12);
     if (!it->is_due) break;
     call_done(it, 1);
   }
@@ -497,7 +497,7 @@ static void step(struct cluster *all) {
   switch (below(20)) {
     case 0: case 1: call_submit(all, it); break;
     case 2: call_tell(all, it); break;
-    case 3: call_due(it, is_one_of(2) ? below(200) : 1 << 16); break;
+    case 3: call_due(it, is_one_of(2) ? below(200) : 1 << 12); break;
     case 4: call_done(it, !is_one_of(60)); break;
     case 5: case 6: case 7: case 8:
       for (uint64_t times = 1 + below(8); times; times--) { arm(); call_hear(all, it); }
@@ -546,11 +546,125 @@ static void live(uint32_t nodes, uint64_t wanted) {
   }
 }
 
+/* --- each refusal in turn --- */
+
+/* The handle works: a new command is answered. */
+static void works(struct cluster *all, struct node *it) {
+  uint64_t seq = ++all->seq;
+  said("tick", rr_tick(&it->handle), BIT(RR_OK));
+  said("submit", rr_submit(&it->handle, 9, seq, RR_CLAIM, (const uint8_t *)"lamp", 4, (const uint8_t *)"x", 1, 0), BIT(RR_OK));
+  for (int times = 0; times < 8; times++) {
+    settle(all, it);
+    while (call_next_message(all, it, 256)) {}
+  }
+  rr_ack ack;
+  do said("next_ack", rr_next_ack(&it->handle, &ack), BIT(RR_OK));
+  while (ack.reply && ack.seq != seq); /* the answer to a request before may come first */
+  WANT(ack.client == 9 && ack.seq == seq && ack.reply, "request %" PRIu64 " isn't answered, but %" PRIu64, seq, ack.seq);
+}
+
+/* Refused so, and the handle works behind it. */
+#define REFUSED(number, call)         \
+  do {                                \
+    said(#call, (call), BIT(number)); \
+    works(&all, it);                  \
+  } while (0)
+
+#ifdef WRAPPED
+/* Memory is refused at each of the first requests of an opening, of a command and of its writes, in turn. */
+static void refuse_memory(struct cluster *all, struct node *it) {
+  for (uint64_t at = 1; at <= 40; at++) {
+    close_node(it);
+    refused_at = at;
+    open_node(all, it);
+    settle(all, it);
+    refused_at = at;
+    uint64_t seq = ++all->seq;
+    said("submit", rr_submit(&it->handle, 9, seq, RR_UPDATE, (const uint8_t *)"lamp", 4, (const uint8_t *)"y", 1, 0), BIT(RR_OK) | BIT(RR_OUT_OF_MEMORY));
+    for (int times = 0; times < 12 && !it->is_down; times++) {
+      refused_at = at;
+      call_due(it, 1 << 12);
+      refused_at = at;
+      if (!it->is_down && it->is_due == 1) call_done(it, 1);
+    }
+    if (it->is_down) close_node(it);
+    settle(all, it);
+    while (call_next_message(all, it, 256)) {}
+    settle(all, it);
+    while (call_next_ack(it)) {}
+    works(all, it);
+  }
+}
+#endif
+
+static void each_refusal(void) {
+  static struct cluster all;
+  all.nodes = 1;
+  struct node *it = &all.its[0];
+  it->is_closed = 1;
+  for (int area = 0; area < 2; area++) it->areas[area].bytes = OWN_MALLOC(1);
+  rr_node *handle = &it->handle;
+  const uint8_t *lamp = (const uint8_t *)"lamp", *bytes = (const uint8_t *)"no message, but some bytes that are longer than a name may be: 65";
+  uint8_t out[4];
+  rr_holding holding;
+  rr_call call;
+  rr_message message;
+  rr_ack ack;
+  said("tick of a closed handle", rr_tick(handle), BIT(RR_DOWN));
+  said("due of a closed handle", rr_due(handle, &call, out, 0), BIT(RR_DOWN));
+  said("next_message of a closed handle", rr_next_message(handle, &message, out, 0), BIT(RR_DOWN));
+  said("next_ack of a closed handle", rr_next_ack(handle, &ack), BIT(RR_DOWN));
+  said("look of a closed handle", rr_look(handle, lamp, 4, &holding, out, 0), BIT(RR_DOWN));
+  said("open of 8", rr_open(handle, 8, 0, bytes, 0, bytes, 0, 1), BIT(RR_BAD_NODES));
+  said("open of node 3 of 3", rr_open(handle, 3, 3, bytes, 0, bytes, 0, 1), BIT(RR_BAD_NODES));
+  said("open of files that vanished", rr_open(handle, 1, 0, bytes, 0, bytes, 0, 0), BIT(RR_DAMAGED));
+  settle(&all, it);
+  works(&all, it);
+  REFUSED(RR_BUSY, rr_open(handle, 1, 0, bytes, 0, bytes, 0, 1));
+  REFUSED(RR_BAD_NODES, rr_suspect(handle, 2));
+  REFUSED(RR_BAD_NODES, rr_suspect(handle, 128));
+  REFUSED(RR_BAD_NAME, rr_submit(handle, 1, 1, RR_CLAIM, bytes, 10, lamp, 4, 0));
+  REFUSED(RR_BAD_NAME, rr_submit(handle, 1, 1, RR_CLAIM, lamp, 0, lamp, 4, 0));
+  REFUSED(RR_BAD_NAME, rr_look(handle, bytes, 10, &holding, out, 4));
+  REFUSED(RR_BAD_VALUE, rr_submit(handle, 1, 1, RR_CLAIM, lamp, 4, bytes, 65, 0));
+  REFUSED(RR_MALFORMED, rr_submit(handle, 1, 1, 0, lamp, 4, lamp, 4, 0));
+  REFUSED(RR_MALFORMED, rr_submit(handle, 1, 1, 5, lamp, 4, lamp, 4, 0));
+  REFUSED(RR_MALFORMED, rr_hear(handle, bytes, 65));
+  REFUSED(RR_MALFORMED, rr_hear(handle, bytes, 0));
+  REFUSED(RR_STRANGE_MARK, rr_done(handle, 1));
+  REFUSED(RR_STRANGE_MARK, rr_done(handle, 0));
+  REFUSED(RR_TOO_LARGE, rr_look(handle, lamp, 4, &holding, out, 0));
+  said("snapshot", rr_snapshot(handle), BIT(RR_OK));
+  it->is_due = UNKNOWN;
+  REFUSED(RR_BUSY, rr_snapshot(handle));
+  said("submit", rr_submit(handle, 1, 1, RR_CLAIM, lamp, 4, lamp, 4, 0), BIT(RR_OK));
+  call_due(it, 4096);
+  call_done(it, 0);
+  WANT(it->is_down, "a write failed, and it is up");
+  said("tick of one that is down", rr_tick(handle), BIT(RR_DOWN));
+  said("submit to one that is down", rr_submit(handle, 1, 1, RR_CLAIM, lamp, 4, lamp, 4, 0), BIT(RR_DOWN));
+  said("hear of one that is down", rr_hear(handle, bytes, 65), BIT(RR_DOWN) | BIT(RR_MALFORMED));
+  said("done of one that is down", rr_done(handle, 1), BIT(RR_STRANGE_MARK));
+  said("due of one that is down", rr_due(handle, &call, out, 4), BIT(RR_DOWN));
+  stands(it);
+  close_node(it);
+  settle(&all, it);
+  works(&all, it);
+#ifdef WRAPPED
+  refuse_memory(&all, it);
+#endif
+  close_node(it);
+  free(it->areas[0].bytes);
+  free(it->areas[1].bytes);
+  free(it->known);
+}
+
 int main(int argc, char **argv) {
   is_liar = argc == 4 && !strcmp(argv[3], "liar");
   if (argc != 3 + is_liar) return 2;
   seed = strtoull(argv[1], NULL, 10);
   state = seed * 0x9E3779B97F4A7C15ULL | 1;
+  each_refusal();
   uint64_t wanted = strtoull(argv[2], NULL, 10), messages = 0, lives = 0;
   while (messages < wanted) {
     live(1 + (uint32_t)below(MOST_NODES), CALLS_OF_A_CLUSTER < 12 * wanted ? CALLS_OF_A_CLUSTER : 12 * wanted);
