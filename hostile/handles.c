@@ -345,48 +345,56 @@ static void call_done(struct node *it, int is_done) {
   if (answer) it->is_down = 1;
 }
 
-static void call_read(struct node *it) {
+/* Reads who has a name: how many bytes are in the buffer. */
+static size_t read_look(struct node *it, struct buffer out) {
   uint8_t name[80];
-  size_t name_len = words(name, 1), room = is_one_of(3) ? below(64) : 64, name_room = is_one_of(3) ? below(64) : 64, len = 0;
-  rr_standing before = stands(it);
-  struct buffer out = buffer_of(room), other = buffer_of(name_room);
-  size_t wrote = 0, other_wrote = 0;
+  size_t name_len = words(name, 1);
+  rr_holding holding;
+  memset(&holding, 0xEE, sizeof holding);
+  uint32_t answer = said("look", rr_look(&it->handle, name, name_len, &holding, out.at, out.len), READS | BIT(RR_BAD_NAME) | BIT(RR_TOO_LARGE));
+  WANT(holding.is_bound <= 1 && (!answer || !holding.is_bound), "bound %u", holding.is_bound);
+  WANT(answer != RR_TOO_LARGE || out.len < 64, "room for 64 isn't enough");
+  return holding.is_bound ? holding.len : 0;
+}
+
+/* Reads the bound name at a place. */
+static size_t read_bound(struct node *it, struct buffer out) {
+  struct buffer name = buffer_of(is_one_of(3) ? below(64) : 64);
+  rr_binding binding;
+  memset(&binding, 0xEE, sizeof binding);
+  size_t place = is_one_of(4) ? draw() : below(8);
+  uint32_t answer = said("bound", rr_bound(&it->handle, place, &binding, name.at, name.len, out.at, out.len), READS | BIT(RR_TOO_LARGE));
+  WANT(binding.is_bound <= 1 && (!answer || !binding.is_bound), "bound %u", binding.is_bound);
+  if (answer == RR_TOO_LARGE) free(name.all); /* the name may be there already */
+  else check_buffer(name, binding.is_bound ? binding.name_len : 0);
+  return binding.is_bound ? binding.len : 0;
+}
+
+/* Reads a place of the decided list. */
+static size_t read_decided(struct node *it, struct buffer out) {
+  size_t len = 0;
   rr_ack ack;
   memset(&ack, 0xEE, sizeof ack);
-  switch (below(4)) {
-    case 0: {
-      rr_holding holding;
-      memset(&holding, 0xEE, sizeof holding);
-      uint32_t answer = said("look", rr_look(&it->handle, name, name_len, &holding, out.at, out.len), READS | BIT(RR_BAD_NAME) | BIT(RR_TOO_LARGE));
-      WANT(holding.is_bound <= 1 && (!answer || !holding.is_bound), "bound %u", holding.is_bound);
-      WANT(answer != RR_TOO_LARGE || room < 64, "room for 64 isn't enough");
-      wrote = holding.is_bound ? holding.len : 0;
-      break;
-    }
-    case 1: {
-      rr_binding binding;
-      memset(&binding, 0xEE, sizeof binding);
-      uint32_t answer = said("bound", rr_bound(&it->handle, is_one_of(4) ? draw() : below(8), &binding, other.at, other.len, out.at, out.len), READS | BIT(RR_TOO_LARGE));
-      WANT(binding.is_bound <= 1 && (!answer || !binding.is_bound), "bound %u", binding.is_bound);
-      if (answer == RR_TOO_LARGE) { free(other.all); other = buffer_of(0); } /* the name may be there already */
-      wrote = binding.is_bound ? binding.len : 0;
-      other_wrote = binding.is_bound ? binding.name_len : 0;
-      break;
-    }
-    case 2: {
-      uint32_t answer = said("decided", rr_decided(&it->handle, is_one_of(4) ? draw() : below(100), &ack, out.at, out.len, &len), READS | BIT(RR_TOO_LARGE));
-      WANT(ack.reply <= 8 && (!answer || !ack.reply), "reply %u", ack.reply);
-      wrote = answer ? 0 : len;
-      break;
-    }
-    default: {
-      size_t place = 99;
-      uint32_t answer = said("watch", rr_watch(&it->handle, is_one_of(4) ? draw() : below(100), name, name_len, &place), READS | BIT(RR_BAD_NAME));
-      WANT(answer || place <= before.decided, "place %zu of %" PRIu64, place, before.decided);
-    }
-  }
+  uint32_t answer = said("decided", rr_decided(&it->handle, is_one_of(4) ? draw() : below(100), &ack, out.at, out.len, &len), READS | BIT(RR_TOO_LARGE));
+  WANT(ack.reply <= 8 && (!answer || !ack.reply), "reply %u", ack.reply);
+  return answer ? 0 : len;
+}
+
+/* Reads where a name changes next. */
+static size_t read_watch(struct node *it, uint64_t decided) {
+  uint8_t name[80];
+  size_t place = 99, name_len = words(name, 1);
+  uint32_t answer = said("watch", rr_watch(&it->handle, is_one_of(4) ? draw() : below(100), name, name_len, &place), READS | BIT(RR_BAD_NAME));
+  WANT(answer || place <= decided, "place %zu of %" PRIu64, place, decided);
+  return 0;
+}
+
+static void call_read(struct node *it) {
+  rr_standing before = stands(it);
+  struct buffer out = buffer_of(is_one_of(3) ? below(64) : 64);
+  uint64_t way = below(4);
+  size_t wrote = way == 0 ? read_look(it, out) : way == 1 ? read_bound(it, out) : way == 2 ? read_decided(it, out) : read_watch(it, before.decided);
   check_buffer(out, wrote);
-  check_buffer(other, other_wrote);
   rr_standing after = stands(it);
   WANT(stays(&before, &after), "what is read changed something");
 }
@@ -567,7 +575,7 @@ static void works(struct cluster *all, struct node *it) {
 #define REFUSED(number, call)         \
   do {                                \
     said(#call, (call), BIT(number)); \
-    works(&all, it);                  \
+    works(all, it);                   \
   } while (0)
 
 #ifdef WRAPPED
@@ -597,14 +605,10 @@ static void refuse_memory(struct cluster *all, struct node *it) {
 }
 #endif
 
-static void each_refusal(void) {
-  static struct cluster all;
-  all.nodes = 1;
-  struct node *it = &all.its[0];
-  it->is_closed = 1;
-  for (int area = 0; area < 2; area++) it->areas[area].bytes = OWN_MALLOC(1);
-  rr_node *handle = &it->handle;
-  const uint8_t *lamp = (const uint8_t *)"lamp", *bytes = (const uint8_t *)"no message, but some bytes that are longer than a name may be: 65";
+static const uint8_t lamp[] = "lamp", bytes[] = "no message, but some bytes that are longer than a name may be: 65";
+
+/* A closed handle refuses all, and stays closed behind an opening that is refused. */
+static void refuse_closed(rr_node *handle) {
   uint8_t out[4];
   rr_holding holding;
   rr_call call;
@@ -618,8 +622,13 @@ static void each_refusal(void) {
   said("open of 8", rr_open(handle, 8, 0, bytes, 0, bytes, 0, 1), BIT(RR_BAD_NODES));
   said("open of node 3 of 3", rr_open(handle, 3, 3, bytes, 0, bytes, 0, 1), BIT(RR_BAD_NODES));
   said("open of files that vanished", rr_open(handle, 1, 0, bytes, 0, bytes, 0, 0), BIT(RR_DAMAGED));
-  settle(&all, it);
-  works(&all, it);
+}
+
+/* What a node that is up refuses, it refuses alone. */
+static void refuse_open(struct cluster *all, struct node *it) {
+  rr_node *handle = &it->handle;
+  rr_holding holding;
+  uint8_t out[4];
   REFUSED(RR_BUSY, rr_open(handle, 1, 0, bytes, 0, bytes, 0, 1));
   REFUSED(RR_BAD_NODES, rr_suspect(handle, 2));
   REFUSED(RR_BAD_NODES, rr_suspect(handle, 128));
@@ -637,6 +646,13 @@ static void each_refusal(void) {
   said("snapshot", rr_snapshot(handle), BIT(RR_OK));
   it->is_due = UNKNOWN;
   REFUSED(RR_BUSY, rr_snapshot(handle));
+}
+
+/* A write fails: the node is down, and opened again it works. */
+static void refuse_down(struct cluster *all, struct node *it) {
+  rr_node *handle = &it->handle;
+  rr_call call;
+  uint8_t out[4];
   said("submit", rr_submit(handle, 1, 1, RR_CLAIM, lamp, 4, lamp, 4, 0), BIT(RR_OK));
   call_due(it, 4096);
   call_done(it, 0);
@@ -648,8 +664,21 @@ static void each_refusal(void) {
   said("due of one that is down", rr_due(handle, &call, out, 4), BIT(RR_DOWN));
   stands(it);
   close_node(it);
+  settle(all, it);
+  works(all, it);
+}
+
+static void each_refusal(void) {
+  static struct cluster all;
+  all.nodes = 1;
+  struct node *it = &all.its[0];
+  it->is_closed = 1;
+  for (int area = 0; area < 2; area++) it->areas[area].bytes = OWN_MALLOC(1);
+  refuse_closed(&it->handle);
   settle(&all, it);
   works(&all, it);
+  refuse_open(&all, it);
+  refuse_down(&all, it);
 #ifdef WRAPPED
   refuse_memory(&all, it);
 #endif
