@@ -1,17 +1,24 @@
 #!/usr/bin/env python3
-"""Runs the library for C as hosts use it: hostile/embedding.py LIBRR [--kills N] [--messages N]
+"""Uses the library for C as hosts do: hostile/embedding.py LIBRR [--short] [--kills N] [--messages N] [--cuts N] [PART ..]
 
-LIBRR is the folder that hostile/unproved_lib makes. It takes the parts in turn, and ends with 1 where one fails:
+LIBRR is the folder that hostile/unproved_lib makes. The parts are these, each a task of hostile/run; all if none is named. The script ends with
+1 where one fails. --short takes a share of each. It needs gcc, valgrind and cargo.
 
-- the C example, under the address sanitizer and under valgrind: nothing is reported, and nothing leaks;
-- the Rust crate's tests, among them three nodes in one process, and a device that fails at each call with a torn write;
-- the Python module's: two handles, failing calls, random messages;
-- three processes with kills under load: each command that was acknowledged is there at all of them, and all lists are equal."""
+- example: the C example, under the address sanitizer and under valgrind: nothing is reported, and nothing leaks;
+- calls: hostile/handles.c under the sanitizers: random calls, messages, torn writes, and memory that is refused; a liar has to fail;
+- valgrind: a share of the same under valgrind;
+- rust: the Rust crate's tests, among them three nodes in one process, and a device that fails at each call with a torn write;
+- python: the Python module's: two handles, failing calls, random messages;
+- full: a node whose list is full, and one behind each refusal that a list of calls can reach;
+- cuts: hostile/power_cuts.py: power cuts under hosts of three nodes; a liar has to fail;
+- processes: three processes with kills under load: each command that was acknowledged is there at all of them, and all lists are equal."""
 import argparse
 import concurrent.futures
 import os
 import pathlib
 import random
+import re
+import shutil
 import signal
 import socket
 import subprocess
@@ -20,42 +27,106 @@ import tempfile
 import threading
 import time
 
+sys.dont_write_bytecode = True
+import ends  # noqa: E402
+from harness import Tally  # noqa: E402
+
 TREE = pathlib.Path(__file__).resolve().parent.parent
 SAYS = "request {seq} of client 7: reply {reply}\nlamp: bound 1, owner 7, value blue\n"
+NEEDED = {"example": ("gcc", "valgrind"), "calls": ("gcc",), "valgrind": ("gcc", "valgrind"), "rust": ("cargo",), "processes": ("cargo",)}
+PARTS = ("processes", "calls", "valgrind", "rust", "python", "full", "cuts", "example")
+# How many kills, wrong messages, wrong messages under valgrind, and power cuts.
+LONG = {"kills": 100, "messages": 1_000_000, "under": 20_000, "cuts": 5000}
+SHORT = {"kills": 3, "messages": 4000, "under": 200, "cuts": 300}
+# The refusals that handles.c has to reach. `full` has 9; RR_FAILED and RR_ROUNDS_OUT are answered by no call.
+REACHED = {0, 1, 2, 3, 5, 6, 7, 8, 11, 12, 13, 16}
+SEEDS = 8
+WRAPS = ["-DWRAPPED", "-Wl,--wrap=malloc,--wrap=realloc"]
+CHECKED = ["-fsanitize=address,undefined", "-fno-sanitize-recover=all"]
 
 
 def run(*words, **named):
     """A command that has to end well: what it wrote."""
     ran = subprocess.run([str(word) for word in words], capture_output=True, text=True, **named)
-    assert ran.returncode == 0, f"{words}: {ran.returncode}\n{ran.stdout}\n{ran.stderr}"
+    assert ran.returncode == 0, f"{words}: {ran.returncode}\n{ran.stdout[-3000:]}\n{ran.stderr[-3000:]}"
     return ran.stdout
 
 
-def c_example(library, room):
+def compiled(library, source, out, *more):
+    run("gcc", "-O1", "-g", "-Wall", "-Wextra", "-Werror", *more, f"-I{library}", "-o", out, source, library / "librr.a")
+    return out
+
+
+def under_valgrind(*words):
+    return ["valgrind", "-q", "--leak-check=full", "--error-exitcode=9", *words]
+
+
+def example(library, room, sizes, counts):
     """The first run claims the name, and the next finds that it is taken."""
-    source, plain, checked = TREE / "bindings/c/one_node.c", room / "one_node", room / "one_node_checked"
-    given = ["-Wall", "-Wextra", "-Werror", "-g", f"-I{library}", source]
-    run("gcc", "-O1", "-o", plain, *given, library / "librr.a")
-    run("gcc", "-O1", "-fsanitize=address,undefined", "-o", checked, *given, library / "librr.a")
-    valgrind = ["valgrind", "-q", "--leak-check=full", "--error-exitcode=9", plain]
-    for name, words in (("checked", [checked]), ("valgrind", valgrind)):
+    source = TREE / "bindings/c/one_node.c"
+    plain, checked = compiled(library, source, room / "one_node"), compiled(library, source, room / "one_node_checked", *CHECKED)
+    for name, words in (("checked", [checked]), ("valgrind", under_valgrind(plain))):
         folder = room / name
         folder.mkdir()
         for seq, reply in ((1, 1), (2, 5)):
             assert run(*words, folder) == SAYS.format(seq=seq, reply=reply)
+    counts["runs of the example"] += 4
 
 
-def rust_tests(library, room):
+def calls(library, room, sizes, counts):
+    """Random calls under the sanitizers. Together the seeds reach every refusal that they can."""
+    program = compiled(library, TREE / "hostile/handles.c", room / "handles", *CHECKED, *WRAPS)
+    seeds = SEEDS if sizes["messages"] >= 100_000 else 2
+    with concurrent.futures.ThreadPoolExecutor(2) as pool:
+        said = list(pool.map(lambda seed: run(program, seed, sizes["messages"] // seeds), range(sizes["seed"], sizes["seed"] + seeds)))
+    reached = {int(number) for it in said for number in re.findall(r" (\d+):\d+", it)}
+    assert reached == REACHED, f"answers {sorted(reached)}, wanted {sorted(REACHED)}"
+    count(said, counts)
+    ran = subprocess.run([program, "1", "4000", "liar"], capture_output=True, text=True)
+    assert ran.returncode == 1 and "decided" in ran.stderr or "behind the end" in ran.stderr, f"a liar isn't found: {ran}"
+
+
+def count(said, counts):
+    for line in said:
+        for what, word in (("calls", "calls"), ("wrong ones", "wrong messages"), ("decided", "commands decided among them")):
+            counts[f"{word} in C"] += int(re.search(rf"{what} (\d+)", line)[1])
+
+
+def valgrind(library, room, sizes, counts):
+    program = compiled(library, TREE / "hostile/handles.c", room / "handles_plain", *WRAPS)
+    said = run(*under_valgrind(program), sizes["seed"] + SEEDS, sizes["under"])
+    counts["calls under valgrind"] += int(re.search(r"calls (\d+)", said)[1])
+
+
+def rust(library, room, sizes, counts):
     said = run("cargo", "test", "--offline", "-j1", cwd=TREE / "bindings/rust", env=rust_env(library, room))
     assert said.count("test result: ok") == 3, said
+    counts["tests in Rust"] += sum(int(it) for it in re.findall(r"test result: ok. (\d+) passed", said))
 
 
 def rust_env(library, room):
     return {**os.environ, "RR_LIB": str(library), "CARGO_TARGET_DIR": os.environ.get("RR_TARGET", str(room / "target"))}
 
 
-def python_tests(library, messages):
-    run(sys.executable, "-B", TREE / "bindings/python/try_rr.py", messages, env={**os.environ, "RR_LIB": str(library)})
+def python(library, room, sizes, counts):
+    run(sys.executable, "-B", TREE / "bindings/python/try_rr.py", sizes["messages"], env={**os.environ, "RR_LIB": str(library)})
+    counts["random messages in Python"] += sizes["messages"]
+
+
+def full(library, room, sizes, counts):
+    """A node that has decided all commands but one takes that; then a new one is refused, and all else goes on."""
+    ends.fill(str(room / "full"), ends.LIFE - 1)
+    run(sys.executable, "-B", TREE / "bindings/python/try_rr.py", "full", room / "full/0", env={**os.environ, "RR_LIB": str(library)})
+    counts["full lists"] += 1
+
+
+def cuts(library, room, sizes, counts):
+    words = [sys.executable, "-B", TREE / "hostile/power_cuts.py", library, "--seed", str(1000 * sizes["seed"])]
+    said = run(*words, "--cuts", sizes["cuts"])
+    for number, what in re.findall(r"(\d+) ([^,\n]+)", said):
+        counts[f"{what} in Python"] += int(number)
+    ran = subprocess.run([*map(str, words), "--cuts", "1000", "--liar"], capture_output=True, text=True)
+    assert ran.returncode == 1 and "had acknowledged" in ran.stdout, f"a liar isn't found: {ran}"
 
 
 class Cluster:
@@ -109,6 +180,13 @@ def load(cluster, client, ends):
                 break
             time.sleep(0.01)
     return acked, seq
+
+
+def processes(library, room, sizes, counts):
+    """Three processes are killed under load."""
+    acked = three_processes(library, room, sizes["kills"])
+    counts["kills of three processes"] += sizes["kills"]
+    counts["commands of three processes"] += acked
 
 
 def three_processes(library, room, kills):
@@ -167,20 +245,58 @@ def until(look, fits, seconds=30):
     return said
 
 
+# --- as a part of hostile/run ---
+
+
+def tasks(options):
+    return list(PARTS)
+
+
+def work(rig, options, task):
+    """A task's tally. It ends with its first failure."""
+    tally = Tally()
+    missing = [program for program in NEEDED.get(task, ()) if not shutil.which(program)]
+    if not tally.check(not missing, f"{task}: no program {' and '.join(missing)} is here"):
+        return tally
+    room = pathlib.Path(rig.path(f"embedding-{task}"))
+    room.mkdir()
+    sizes = {**(SHORT if options.short else LONG), "seed": options.seed}
+    try:
+        globals()[task](pathlib.Path(options.librr), room, sizes, tally.counts)
+        tally.passed += 1
+    except (AssertionError, OSError, subprocess.SubprocessError) as why:
+        tally.failures.append(f"{task}: {type(why).__name__}: {why}")
+    finally:
+        shutil.rmtree(room, ignore_errors=True)
+    return tally
+
+
 def main():
-    words = argparse.ArgumentParser()
+    words = argparse.ArgumentParser(description=__doc__, formatter_class=argparse.RawDescriptionHelpFormatter)
     words.add_argument("library", type=pathlib.Path)
-    words.add_argument("--kills", type=int, default=5)
-    words.add_argument("--messages", type=int, default=5000)
+    words.add_argument("parts", nargs="*", metavar="PART", default=[])
+    words.add_argument("--short", action="store_true")
+    words.add_argument("--seed", type=int, default=1)
+    for name in LONG:
+        words.add_argument(f"--{name}", type=int)
     given = words.parse_args()
-    library, begun = given.library.resolve(), time.monotonic()
-    with tempfile.TemporaryDirectory() as room:
-        room = pathlib.Path(room)
-        c_example(library, room)
-        rust_tests(library, room)
-        python_tests(library, given.messages)
-        acked = three_processes(library, room, given.kills)
-    print(f"embedding: C, Rust, Python, {given.kills} kills of three processes with {acked} commands: well, {time.monotonic() - begun:.0f} s")
+    sizes = {name: getattr(given, name) or (SHORT if given.short else LONG)[name] for name in LONG}
+    failed, begun = 0, time.monotonic()
+    with tempfile.TemporaryDirectory() as folder:
+        for part in given.parts or PARTS:
+            missing = [program for program in NEEDED.get(part, ()) if not shutil.which(program)]
+            assert not missing, f"no program {' and '.join(missing)} is here"
+            room, tally, since = pathlib.Path(folder) / part, Tally(), time.monotonic()
+            room.mkdir()
+            try:
+                globals()[part](given.library.resolve(), room, {**sizes, "seed": given.seed}, tally.counts)
+                said = "well"
+            except (AssertionError, OSError, subprocess.SubprocessError) as why:
+                said, failed = f"FAILED {type(why).__name__}: {why}", failed + 1
+            told = ", ".join(f"{count} {what}" for what, count in sorted(tally.counts.items()))
+            print(f"{part}: {told}: {said}, {time.monotonic() - since:.0f} s", flush=True)
+    print(f"embedding: {failed} failed, {time.monotonic() - begun:.0f} s")
+    sys.exit(1 if failed else 0)
 
 
 if __name__ == "__main__":

@@ -1,7 +1,9 @@
 #!/usr/bin/env python3
 """Tries rr.py: nodes whose areas and messages are in memory, random bytes for messages, and a device that fails at each of its calls. RR_LIB names
-the library; the one argument is how many random messages there are."""
+the library; the one argument is how many random messages there are. `full FOLDER` asks a node that has decided all commands but one, of node 0 of 1, over
+the files of that folder."""
 import collections
+import pathlib
 import random
 import sys
 
@@ -107,8 +109,33 @@ def several_handles():
     assert nodes[1].look(b"lamp").value == b"b"
 
 
+def full_list(folder):
+    """The last place is taken; then a new command is refused, and all else goes on."""
+    host = Memory()
+    host.areas = [bytearray((folder / name).read_bytes()) for name in ("a0", "a1")]
+    node = host.open()
+    node.submit(9, 1, rr.Op.CLAIM, b"last", b"x")
+    host.serve(node)
+    assert host.acks == [rr.Ack(9, 1, rr.Reply.CLAIMED, 0)], host.acks
+    stands = node.status()
+    assert stands.decided == 1_048_576 and node.decided(stands.decided) is None
+    assert refusal(node.submit, 9, 2, rr.Op.CLAIM, b"late", b"x") == rr.Refusal.LIST_FULL
+    assert node.status() == stands and node.is_up
+    node.submit(9, 1, rr.Op.CLAIM, b"last", b"x")
+    node.tick()
+    host.serve(node)
+    assert host.acks[1:] == host.acks[:1], "a request that is decided is answered again"
+    assert node.look(b"last") == rr.Holding(9, b"x") and node.look(b"late") is None
+    again = host.open()
+    assert again.status().decided == stands.decided and again.look(b"last") == rr.Holding(9, b"x")
+
+
 def main():
     random.seed(7)
+    if sys.argv[1:2] == ["full"]:
+        full_list(pathlib.Path(sys.argv[2]))
+        print("rr.py: a full list: well")
+        return
     count = int(sys.argv[1]) if len(sys.argv) > 1 else 20000
     assert rr.version() == 1
     for part in (several_handles, failing_device):

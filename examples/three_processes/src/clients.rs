@@ -1,10 +1,9 @@
 //! Clients by lines: a line asks, and a line answers.
 
-use crate::Event;
-use std::io::{BufRead, BufReader};
-use std::net::{TcpListener, TcpStream};
-use std::sync::mpsc::Sender;
-use std::thread;
+use crate::wires::Wire;
+
+/// More than the longest line has.
+const LONGEST: usize = 1024;
 
 /// A line of a client.
 pub enum Line {
@@ -40,24 +39,15 @@ fn read(line: &str) -> Option<Line> {
     }
 }
 
-/// Lines that come to this port go to the node, with the way back.
-pub fn listen(port: u16, events: Sender<Event>) -> std::io::Result<()> {
-    let listener = TcpListener::bind(("127.0.0.1", port))?;
-    thread::spawn(move || {
-        for stream in listener.incoming().flatten() {
-            let events = events.clone();
-            thread::spawn(move || ask(&stream, &events));
-        }
-    });
-    Ok(())
-}
-
-/// Lines of one connection, up to its end.
-fn ask(stream: &TcpStream, events: &Sender<Event>) -> Option<()> {
-    stream.set_nodelay(true).ok()?;
-    for line in BufReader::new(stream).lines() {
-        let back = stream.try_clone().ok()?;
-        events.send(Event::Asked(read(&line.ok()?), back)).ok()?;
+/// The lines that have come whole; none for one that asks nothing. Who says more than a line can have is broken off.
+pub fn lines(wire: &mut Wire) -> Vec<Option<Line>> {
+    let mut lines = Vec::new();
+    let mut at = 0;
+    while let Some(len) = wire.came[at..].iter().position(|&byte| byte == b'\n') {
+        lines.push(str::from_utf8(&wire.came[at..at + len]).ok().and_then(read));
+        at += len + 1;
     }
-    Some(())
+    wire.came.drain(..at);
+    wire.is_broken |= wire.came.len() > LONGEST;
+    lines
 }

@@ -1,62 +1,74 @@
 //! Messages between processes: each with its length before it, in two bytes, over TCP on this machine. Who sends isn't checked.
 
-use crate::Event;
-use std::io::{BufReader, BufWriter, Read, Write};
-use std::net::{TcpListener, TcpStream};
-use std::sync::mpsc::{Receiver, Sender, channel};
-use std::thread;
+use crate::wires::{Wire, Wish};
+use std::net::{Ipv4Addr, SocketAddr, TcpStream};
+use std::time::Duration;
 
-/// What comes to this port goes to the node.
-pub fn listen(port: u16, events: Sender<Event>) -> std::io::Result<()> {
-    let listener = TcpListener::bind(("127.0.0.1", port))?;
-    thread::spawn(move || {
-        for stream in listener.incoming().flatten() {
-            let events = events.clone();
-            thread::spawn(move || hear(stream, &events));
-        }
-    });
-    Ok(())
+/// How long a connection on this machine takes at most to be made.
+const SOON: Duration = Duration::from_millis(20);
+
+/// The way to a node. Without a connection what is sent is lost: the node says it again.
+pub struct Link {
+    port: u16,
+    wire: Option<Wire>,
 }
 
-/// Messages of one connection, up to its end.
-fn hear(stream: TcpStream, events: &Sender<Event>) {
-    let mut reader = BufReader::new(stream);
-    let mut len = [0; 2];
-    while reader.read_exact(&mut len).is_ok() {
-        let mut bytes = vec![0; usize::from(u16::from_be_bytes(len))];
-        if reader.read_exact(&mut bytes).is_err() || events.send(Event::Heard(bytes)).is_err() {
-            return;
+impl Link {
+    pub fn new(port: u16) -> Link {
+        Link { port, wire: None }
+    }
+
+    /// Connects, where there is no connection.
+    pub fn connect(&mut self) {
+        if self.wire.is_none() {
+            let address = SocketAddr::from((Ipv4Addr::LOCALHOST, self.port));
+            self.wire = TcpStream::connect_timeout(&address, SOON).and_then(Wire::new).ok();
+        }
+    }
+
+    pub fn send(&mut self, bytes: &[u8]) {
+        if let (Some(wire), Ok(len)) = (&mut self.wire, u16::try_from(bytes.len())) {
+            wire.put(&len.to_be_bytes());
+            wire.put(bytes);
+        }
+    }
+
+    pub fn flush(&mut self) {
+        if let Some(wire) = &mut self.wire {
+            wire.flush();
+            if wire.is_broken {
+                self.wire = None;
+            }
+        }
+    }
+
+    pub fn wish(&self) -> Option<Wish> {
+        self.wire.as_ref().map(Wire::wish)
+    }
+
+    /// Nothing is said on a link but by this process. So where something comes the other one has ended.
+    pub fn look(&mut self, room: &mut [u8]) {
+        if let Some(wire) = &mut self.wire {
+            wire.read(room);
+            if wire.has_ended {
+                self.wire = None;
+            }
         }
     }
 }
 
-/// What is given here is sent to a port. What can't be sent is lost: the node says it again.
-pub fn link(port: u16) -> Sender<Vec<u8>> {
-    let (sender, given) = channel();
-    thread::spawn(move || {
-        let mut stream = None;
-        while let Ok(first) = given.recv() {
-            stream = stream.or_else(|| connect(port)).and_then(|it| send_all(it, first, &given));
+/// The messages that have come whole.
+pub fn messages(wire: &mut Wire) -> Vec<Vec<u8>> {
+    let mut messages = Vec::new();
+    let mut at = 0;
+    while let Some((len, rest)) = wire.came[at..].split_first_chunk() {
+        let len = usize::from(u16::from_be_bytes(*len));
+        if rest.len() < len {
+            break;
         }
-    });
-    sender
-}
-
-fn connect(port: u16) -> Option<BufWriter<TcpStream>> {
-    let stream = TcpStream::connect(("127.0.0.1", port)).ok()?;
-    stream.set_nodelay(true).ok()?;
-    Some(BufWriter::new(stream))
-}
-
-/// Sends a message and those that wait behind it. The connection, if it goes on.
-fn send_all(mut stream: BufWriter<TcpStream>, first: Vec<u8>, given: &Receiver<Vec<u8>>) -> Option<BufWriter<TcpStream>> {
-    let mut next = Some(first);
-    while let Some(bytes) = next {
-        let len = u16::try_from(bytes.len()).ok()?;
-        stream.write_all(&len.to_be_bytes()).ok()?;
-        stream.write_all(&bytes).ok()?;
-        next = given.try_recv().ok();
+        messages.push(rest[..len].to_vec());
+        at += 2 + len;
     }
-    stream.flush().ok()?;
-    Some(stream)
+    wire.came.drain(..at);
+    messages
 }
