@@ -10,7 +10,7 @@
 //! This is in `crates/rr_threads/src/node_loop.rt`:
 //!
 //! ```rust
-//! /// Runs the turns of a node, until it goes down. A refusal ends the run.
+//! /// Runs the turns of a node, until it goes down. By a refusal it fails.
 //! fn run_turns<W: WindowName, T: Turnstile, R: Wait + Clock>(
 //!     rt: &R,
 //!     shared: &Shared<'_, T>,
