@@ -14,8 +14,9 @@ use Rattle.rr_run.specs.declared.asking.Told.{Told}
 use Rattle.rr_run.specs.Questions.{node_of, outcome_in, sight_in, listing_in, is_written, summary_in}
 
 -- a call, with what it was given and answered: a node is found to be on, or to be up, or not; all are found to have begun, or not; a node is
--- found to have gone down by a refusal, or not; it is turned off, or on; a question is left; a node's client is rung for; what is told is taken; nothing is told behind a look that saw the
--- end of the run, or didn't; the run is found to be over, or not; and it has ended by a refusal
+-- found to have gone down by a refusal, or not; it is turned off, or on; a question is left; a node's client is rung for; what is told is
+-- taken; nothing is told behind a look that saw the end of the run, or didn't; the run is found to be over, or not; and it has ended by a
+-- refusal
 pub data Call : Type 0 where
   finds_on : (node : ℕ) (is_on : Bool) → Call
   finds_up : (node : ℕ) (is_up : Bool) → Call
