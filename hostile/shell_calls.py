@@ -2,9 +2,10 @@
 pipes. It fails, is interrupted, moves half of its bytes, or the process is killed at it.
 
 A shell answers line after line meanwhile: names are claimed and updated, a node writes a snapshot, one is stopped and started, and one
-catches up. Each answer is the one that has to come. A shell that ends before the last line ends with status 5 and lines that name
-what failed, or by the signal. Then one over the same folders has, without faults, all that was acknowledged, at each node, and gives
-no request number that was given before.
+catches up. Each answer is the one that has to come, until a node fails: that node alone is down then, `status` names the call that failed,
+and the others go on. In half of the tries it is started again. A shell that ends before the last line, or while a node has failed, ends
+with status 5 and lines that name what failed, or by the signal. Then one over the same folders has, without faults, all that was
+acknowledged, at each node, and gives no request number that was given before.
 """
 import re
 import shutil
@@ -33,6 +34,9 @@ LINES = (
     ("look one", "one bound 7 c"),
     ("claim three d", "claimed"),
 )
+# What a failed node says of itself, and how a line is answered that is asked of it.
+WHY = r"node {node} failed: (?:{node}/a[01]: (?:reading|writing|syncing): \S.*|a file of its disk couldn't be read or written, or the clock couldn't be read)"
+DENIED = r"unacknowledged|error: node {node} (?:is down: start it, or ask another|wrote no snapshot: down or busy|has failed again: status says why)|one unseen"
 
 
 def tasks(options):
@@ -86,15 +90,19 @@ class Broken:
         before, least = commands_in(self.folder), shell_kills.stored(self.folder)
         shell = shell_kills.Shell(self.rig.rr, NODES, self.folder, env)
         try:
-            answered = talk(shell, names)
+            answered, other = talk(shell, names)
+            if other is not None:
+                self.tally.counts["nodes that failed alone"] += 1
+                is_whole = self.go_on(what, shell, names, other, number % 2 == 0)
+            else:
+                is_whole = answered == len(LINES)
             status, said = shell.end()
         finally:
             shell.child.kill()
             shell.child.wait()
         is_reached = status == -9 if how in KILLS else int(scripts.bytes_of(self.count) or 0) >= number
-        is_whole = answered == len(LINES)
         if status == 0:
-            self.tally.check(is_whole and not said, f"{what}: {answered} answers, {said!r}")
+            self.tally.check(is_whole and not said, f"{what}: {answered} answers, then {other!r}, {said!r}")
             self.tally.counts["shells with all answers, though a call failed"] += is_reached and how not in HARMLESS
         else:
             holds = is_reached and how not in HARMLESS and is_told(how, status, said, self.folder)
@@ -104,6 +112,34 @@ class Broken:
         self.tally.counts["kills at a call" if how in KILLS else f"calls that fail, {env['FAIL_CALL']}"] += is_reached
         open_again(self.rig, self.tally, what, self.folder, names)
         return is_reached
+
+
+    def go_on(self, what, shell, names, other, is_started):
+        """Behind a line that was answered so, one node has failed, and tells why. The others decide what is asked of them. Then the failed
+        node is started, if it is to be. Answers whether none is down."""
+        said = status_of(shell)
+        failed = [node for node, text in enumerate(said) if text.startswith(f"node {node} failed: ")]
+        holds = len(failed) == 1 and re.fullmatch(WHY.format(node=failed[0]), said[failed[0]]) is not None
+        if not self.tally.check(holds and re.fullmatch(DENIED.format(node=failed[0]), other), f"{what}: {other!r}, {said}"):
+            return False
+        for node, text in enumerate(said):
+            if text == f"node {node} down":
+                shell_kills.need(shell.ask(f"start {node}") == f"started {node}", f"{node} doesn't start")
+        node = (failed[0] + 1) % NODES
+        shell_kills.need(shell.ask(f"at {node}") == f"at {node}", "another node can't be asked")
+        self.tally.check(shell.ask("claim four e") == "claimed", f"{what}: behind the failure of {failed[0]}, {node} decides nothing")
+        names.acknowledge(node, "four", "e")
+        if not is_started:
+            return False
+        answer = shell.ask(f"start {failed[0]}")
+        self.tally.check(answer == f"started {failed[0]}", f"{what}: the failed node isn't started: {answer!r}, {status_of(shell)}")
+        self.tally.counts["nodes that failed and were started again"] += 1
+        return answer == f"started {failed[0]}"
+
+
+def status_of(shell):
+    """What each node tells of itself."""
+    return [shell.ask("status"), *(shell.hear("status") for _ in range(NODES - 1))]
 
 
 def open_again(rig, tally, what, folder, names):
@@ -135,7 +171,8 @@ def check_numbers(tally, what, before, after, least):
 
 
 def talk(shell, names):
-    """Asks line by line until the shell has gone, and notes what was acknowledged. Answers how many lines were answered."""
+    """Asks line by line until the shell has gone or an answer is another one, and notes what was acknowledged. Answers how many lines were
+    answered as they have to be, and the other answer, if there is one."""
     node = 0
     for place, (line, wanted) in enumerate(LINES):
         verb, *words = line.split()
@@ -143,14 +180,14 @@ def talk(shell, names):
         if answer is None or answer == "unacknowledged":
             if verb in shell_kills.REPLIES:
                 names.doubt(*words)
-            if answer is None:
-                return place
+            return place, answer
+        elif answer != wanted:
+            return place, answer
         else:
-            shell_kills.need(answer == wanted, f"{line!r} was answered {answer!r}")
             node = int(words[0]) if verb == "at" else node
             if verb in shell_kills.REPLIES:
                 names.acknowledge(node, *words)
-    return len(LINES)
+    return len(LINES), None
 
 
 def is_told(how, status, said, folder):

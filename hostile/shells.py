@@ -22,6 +22,7 @@ import statistics
 import subprocess
 import sys
 import tempfile
+import termios
 import time
 
 sys.dont_write_bytecode = True
@@ -314,16 +315,37 @@ def folder_in_use_is_refused(case):
     need(ran == (0, "look 0 a 7:x\n", ""), f"behind the shell: {ran}")
 
 
-def failing_device_is_told(case):
-    """A device that fails ends the shell with its folder named, at the next line; what was acknowledged stands."""
+def failing_device_takes_its_node_alone(case):
+    """A node whose disk fails is down alone, also at a start. The status names the file, the call and what the system said, and the others
+    decide each claim that comes. At the end the shell ends with 5 and names the folder. What was acknowledged stands."""
     for kind, node, calls in (("write", 1, "writing"), ("sync", 2, "syncing")):
         env = {"LD_PRELOAD": case.preload, "FAIL_CALL": kind, "FAIL_PATH": f"/{node}/", "FAIL_NTH": "30", "FAIL_MANY": "1000000", "FAIL_HOW": "5"}
-        shell = Shell(case, "--nodes", "3", "--client", "7", env=env)
+        shell = Shell(case, "--nodes", "3", "--client", "7", "--json", env=env)
+        claimed = json.dumps({"kind": "reply", "reply": "claimed"}, separators=(",", ":"))
         names = []
-        while (answer := shell.ask(f"claim {kind}-{len(names)} x")) == "claimed":
+
+        def claim():
             names.append(f"{kind}-{len(names)}")
-            need(len(names) < 1000, "a device fails, and the shell goes on")
-        need(answer is None and names, f"a claim with a failing device was answered {answer!r} behind {len(names)}")
+            shell.want(f"claim {names[-1]} x", claimed)
+
+        def fails():
+            while all(state["up"] for state in shell.states(3)):
+                need(len(names) < 1000, "a device fails, and its node goes on")
+                claim()
+            states = shell.states(3)
+            need([state["up"] for state in states] == [it != node for it in range(3)], f"of three nodes one has failed: {states}")
+            why = states[node].get("failed", "")
+            need(re.fullmatch(f"{node}/a[01]: {calls}: Input/output error .*", why), f"a failing device was told as {states[node]}")
+
+        fails()
+        for _ in range(20):
+            claim()
+        down = f"node {node} is down: start it, or ask another"
+        shell.wants((f"at {node}", f'{{"kind":"at","node":{node}}}'), ("look x", f'{{"kind":"error","text":"{down}"}}'), ("at 0", '{"kind":"at","node":0}'))
+        again = shell.ask(f"start {node}")
+        need(json.loads(again)["kind"] in ("error", "started"), f"a start over a failing device was answered {again!r}")
+        claim()
+        fails()
 
         def told(text, node=node, calls=calls):
             lines = text.decode().splitlines()
@@ -332,7 +354,8 @@ def failing_device_is_told(case):
 
         shell.end(status=5, said=told)
         shell = Shell(case, "--client", "7")
-        shell.wants(("sync", "synced"), *((f"look {name}", f"{name} bound 7 x") for name in names))
+        for it in range(3):
+            shell.wants((f"at {it}", f"at {it}"), ("sync", "synced"), *((f"look {name}", f"{name} bound 7 x") for name in names))
         shell.end()
 
 
@@ -461,12 +484,23 @@ def failing_input_ends_a_watch(case):
 
 
 def people_see_a_prompt(case):
-    """On a terminal there is a prompt before each line, behind the words that were left out."""
+    """On a terminal it is told what the shell runs over, and then there is a prompt before each line: that, the answers, and nothing else."""
+    for kind, line, answer in (("a new registry", b"claim a x\n", "claimed"), ("the registry", b"look a\n", "a bound 0 x")):
+        told = on_terminal(case, [line, b"quit\n"])
+        begin = f'rr: {kind} in {case.folder}, of 3 nodes; you are client 0, and ask node 0; "help" lists the commands, "quit" or Ctrl-D ends'
+        need(told.decode().splitlines() == [begin, f"> {answer}", "> "], f"on a terminal: {told!r}")
+
+
+def on_terminal(case, lines):
+    """What a terminal shows that doesn't echo, where these lines are typed."""
     master, slave = pty.openpty()
+    manner = termios.tcgetattr(slave)
+    manner[3] &= ~termios.ECHO
+    termios.tcsetattr(slave, termios.TCSANOW, manner)
     child = subprocess.Popen([case.rr, "shell", "--dir", case.folder], stdin=slave, stdout=slave, stderr=slave, cwd=case.room)
     case.children.append(child)
     os.close(slave)
-    os.write(master, b"claim a x\nquit\n")
+    os.write(master, b"".join(lines))
     told = b""
     try:
         while select.select([master], [], [], LIMIT)[0] and (more := os.read(master, 65536)):
@@ -475,7 +509,7 @@ def people_see_a_prompt(case):
         pass
     need(child.wait(SOON) == 0, f"on a terminal: {told!r}")
     os.close(master)
-    need(told.count(b"> ") == 2 and b"claimed" in told and f"--nodes 3 --dir {case.folder}".encode() in told, f"on a terminal: {told!r}")
+    return told
 
 
 # What is measured comes first, alone.
@@ -492,7 +526,7 @@ BESIDE = (
     quit_ends_at_once,
     snapshot_is_written_when_told,
     folder_in_use_is_refused,
-    failing_device_is_told,
+    failing_device_takes_its_node_alone,
     numbers_are_never_given_again,
     numbers_go_on_behind_whoever_knows_most,
     failing_output_ends_it,

@@ -1,5 +1,5 @@
 -- What the calls of C ask for.
-use Rattle.std.specs.Prelude.{◌≡◌, ℕ, List, length, take, Option, None, Some, Result}
+use Rattle.std.specs.Prelude.{◌≡◌, ◌≤◌, ℕ, List, length, take, Option, None, Some, Result}
 use Rattle.rr_types.specs.declared.command.Command.{Command}
 use Rattle.rr_types.specs.declared.command.Op.{Op}
 use Rattle.rr_types.specs.declared.command.Operand.{Operand}
@@ -8,6 +8,7 @@ use Rattle.rr_types.specs.declared.command.Reply.{Reply}
 use Rattle.rr_types.specs.declared.command.Shape.{Shape}
 use Rattle.rr_types.specs.declared.command.Shape.TheVariants.{Bare, Valued, Owned}
 use Rattle.rr_types.specs.declared.refusal.Refusal.{Refusal}
+use Rattle.rr_types.specs.Names.{IsName, IsValue}
 use Rattle.rr_types.specs.Commands.{op_kind_of, op_shape, op_of, op_name}
 use Rattle.rr_host.specs.Doings.{IsOf}
 use Rattle.rr_host.specs.Hosts.{LeavesOn}
@@ -24,6 +25,10 @@ abbrev pub operand_asked : Shape → List ℕ → ℕ → Operand
 operand_asked Bare value owner = Nothing
 operand_asked Valued value owner = Value value
 operand_asked Owned value owner = Owner owner
+
+-- there is an operation of this kind with this name, and with this value if the kind has one
+abbrev pub IsOp : ℕ → List ℕ → List ℕ → Type 0
+IsOp kind name value = (1 ≤ kind) × (kind ≤ 4) × IsName name × (op_shape (op_kind_of kind) ≡ Valued → IsValue value)
 
 -- the operation of a kind from 1 to 4
 abbrev pub op_asked : ℕ → List ℕ → List ℕ → ℕ → Op

@@ -1,10 +1,10 @@
 //! What a caller in C asks for, in the library's types.
 
-ghost use Rattle.std.specs.Prelude.{◌≡◌, ◌≤◌, ◌↔◌, [], IsTrue, IfOk, OnOk};
-ghost use Rattle.rr_types.specs.Names.{IsName};
+ghost use Rattle.std.specs.Prelude.{◌≡◌, ◌≤◌, ◌↔◌, [], IsTrue, IfOk, OnOk, OnErr};
+ghost use Rattle.rr_types.specs.Names.{IsName, IsValue};
 ghost use Rattle.rr_types.specs.Commands.{operand_shape};
 ghost use Rattle.rr_host.specs.Doings.{IsOf};
-ghost use Rattle.rr_c.specs.Calls.{operand_asked, op_asked};
+ghost use Rattle.rr_c.specs.Calls.{IsOp, operand_asked, op_asked};
 
 use rr_host::Host;
 use rr_types::{Name, Op, OpKind, Operand, Refusal, Shape, Value, made_of};
@@ -45,6 +45,7 @@ pub(crate) fn operation(kind: u32, name: &[u8], value: &[u8], owner: u32) -> Res
     ensures asked { IfOk result (λ op. op ≡ op_asked kind name.now value.now owner) }
     ensures kinds { OnOk result ((1 ≤ kind) × (kind ≤ 4)) }
     ensures name { OnOk result (IsName name.now) }
+    ensures refused { OnErr result (IsOp kind name.now value.now → ⊥) }
 {
     made_of!(Op, Operand, Name, Value);
     if kind == 0 || kind > 4 {
@@ -60,6 +61,7 @@ pub(crate) fn operation(kind: u32, name: &[u8], value: &[u8], owner: u32) -> Res
 fn operand(shape: Shape, value: &[u8], owner: u32) -> Result<Operand, Refusal>
     ensures asked { IfOk result (λ operand. operand ≡ operand_asked shape value.now owner) }
     ensures shape { IfOk result (λ operand. operand_shape operand ≡ shape) }
+    ensures refused { OnErr result ((shape ≡ Shape.Valued) × (IsValue value.now → ⊥)) }
 {
     made_of!(Value);
     match shape {

@@ -9,14 +9,15 @@ ghost use Rattle.rr_types.specs.declared.command.Command.{Command};
 ghost use Rattle.rr_types.specs.declared.input.Input.TheVariants as told;
 ghost use Rattle.rr_types.specs.declared.refusal.Refusal.{Refusal};
 ghost use Rattle.rr_types.specs.Names.{IsName};
+ghost use Rattle.rr_types.specs.Commands.{op_name};
 ghost use Rattle.rr_types.specs.Registry.{Holding, registry_of, holding_of};
 ghost use Rattle.rr_model.specs.NodeState.{decided_prefix};
 ghost use Rattle.rr_host.specs.Hosts.{is_up, Tells, TicksOn, SnapsOn, GoesOn, LeavesOn, AcknowledgesOn};
 ghost use Rattle.rr_host.specs.declared.doing.Doing.TheVariants as does;
 ghost use Rattle.rr_host.specs.declared.up.Leaving.{Leaving};
-ghost use Rattle.rr_handle.specs.Seen.{node_in, Comes, HearsIn, IsMalformed, Stages, StopsStaging, read, of_core, due_of, written_by, Begins, answered_at, IsNextIn};
+ghost use Rattle.rr_handle.specs.Seen.{node_in, state_in, IsWhyIn, Comes, HearsIn, IsMalformed, Stages, StopsStaging, read, of_core, due_of, written_by, Begins, answered_at, IsNextIn};
 ghost use Rattle.rr_c.specs.Shown.{call_of, answer_shown, Leaves, Holds, Binds};
-ghost use Rattle.rr_c.specs.Calls.{command_asked, Opens, LeavesAny, Shows, Stands};
+ghost use Rattle.rr_c.specs.Calls.{IsOp, command_asked, Opens, LeavesAny, Shows, Stands};
 
 mod asked;
 mod shown;
@@ -132,6 +133,7 @@ pub extern "C" fn rr_submit(
     ensures ok { result ≡ 0 → Comes (Tells (told.Submit (command_asked client seq kind name.now value.now owner))) (node_in node.old) (node_in node.new) }
     ensures kind { result ≡ 0 → (1 ≤ kind) × (kind ≤ 4) }
     ensures name { result ≡ 0 → IsName name.now }
+    ensures why { result ≢ 0 → IsOp kind name.now value.now → (e : Refusal) × IsWhyIn (told.Submit (command_asked client seq kind name.now value.now owner)) (node_in node.old) e }
     ensures refused { result ≢ 0 → node_in node.new ≡ node_in node.old }
 {
     made_of!(Command, Op, Name, Value);
@@ -202,7 +204,7 @@ pub extern "C" fn rr_next_message(node: &mut RrNode, message: &mut RrMessage, ou
 #[unsafe(no_mangle)]
 pub extern "C" fn rr_next_ack(node: &mut RrNode, ack: &mut RrAck) -> u32
     ensures ok { result ≡ 0 → (answer : Option (RequestNo × Reply)) × Comes (λ d e. AcknowledgesOn d answer e) (node_in node.old) (node_in node.new) × (ack.new ≡ answer_shown answer) }
-    ensures refused { result ≢ 0 → node_in node.new ≡ node_in node.old }
+    ensures refused { result ≢ 0 → (node_in node.new ≡ node_in node.old) × (state_in (node_in node.old) ≡ None) }
 {
     *ack = NO_ACK;
     match node.next_ack() {
@@ -224,6 +226,7 @@ pub extern "C" fn rr_look(
     out: &mut [u8],
 ) -> u32
     ensures ok { result ≡ 0 → (found : Option Holding) × (read (of_core (λ s. holding_of (registry_of (decided_prefix s)) name.now)) (node_in node.old) ≡ Ok found) × Holds found holding.new out.new }
+    ensures why { result ≢ 0 → IsName name.now → (state_in (node_in node.old) ≡ None) ⊎ ((x : Holding) × (read (of_core (λ s. holding_of (registry_of (decided_prefix s)) name.now)) (node_in node.old) ≡ Ok (Some x)) × (length out.old < length x.value)) }
     ensures same { node_in node.new ≡ node_in node.old }
 {
     *holding = NO_HOLDING;
@@ -258,6 +261,7 @@ pub extern "C" fn rr_bound(
     out: &mut [u8],
 ) -> u32
     ensures ok { result ≡ 0 → (found : Option (List ℕ × Holding)) × (read (of_core (λ s. slice_get (registry_of (decided_prefix s)) place)) (node_in node.old) ≡ Ok found) × Binds found binding.new name.new out.new }
+    ensures why { result ≢ 0 → (state_in (node_in node.old) ≡ None) ⊎ ((x : List ℕ × Holding) × (read (of_core (λ s. slice_get (registry_of (decided_prefix s)) place)) (node_in node.old) ≡ Ok (Some x)) × ((length name.old < length x.0) ⊎ (length out.old < length x.1.value))) }
     ensures same { node_in node.new ≡ node_in node.old }
 {
     *binding = NO_BINDING;
@@ -290,6 +294,7 @@ pub extern "C" fn rr_bound(
 #[unsafe(no_mangle)]
 pub extern "C" fn rr_status(node: &mut RrNode, status: &mut RrStanding) -> u32
     ensures ok { result ≡ 0 → Stands (node_in node.old) status.new }
+    ensures why { result ≢ 0 → node_in node.old ≡ None }
     ensures same { node_in node.new ≡ node_in node.old }
 {
     match node.status() {
@@ -315,6 +320,7 @@ pub extern "C" fn rr_decided(
     len: &mut usize,
 ) -> u32
     ensures ok { result ≡ 0 → (found : Option (Command × Option Reply)) × (read (of_core (answered_at place)) (node_in node.old) ≡ Ok found) × Shows found ack.new len.new out.new }
+    ensures why { result ≢ 0 → (state_in (node_in node.old) ≡ None) ⊎ ((x : Command × Option Reply) × (read (of_core (answered_at place)) (node_in node.old) ≡ Ok (Some x)) × (length out.old < length (op_name x.0.op))) }
     ensures same { node_in node.new ≡ node_in node.old }
 {
     made_of!(Command, Op, Name, Value);
@@ -339,6 +345,7 @@ pub extern "C" fn rr_decided(
 #[unsafe(no_mangle)]
 pub extern "C" fn rr_watch(node: &mut RrNode, from: usize, name: &[u8], place: &mut usize) -> u32
     ensures ok { result ≡ 0 → IsNextIn (node_in node.old) from name.now place.new }
+    ensures why { result ≢ 0 → IsName name.now → state_in (node_in node.old) ≡ None }
     ensures same { node_in node.new ≡ node_in node.old }
 {
     *place = 0;

@@ -9,10 +9,10 @@ use crate::options::Options;
 use crate::patience::looks_in;
 use crate::promises::promises_of;
 use rr_disk::Disk;
-use rr_folders::{Folders, Lockable, Locks, MarkWriter, open_folders};
+use rr_folders::{Folders, Lockable, Locks, MarkWriter, Reasons, open_folders};
 use rr_threads::{Switches, run_switched};
 use rr_turn::Open;
-use rr_types::{Nodes, Refusal};
+use rr_types::{NodeId, Nodes, Refusal};
 use std::fs::OpenFile;
 use std::io::{Read, Seek, Write};
 use std::os::unix::fs::FileExt;
@@ -36,6 +36,7 @@ fn run_over<
     rt: &R,
     nodes: Nodes,
     locks: &Locks<F>,
+    reasons: &Reasons,
     options: &Options,
     disks: Vec<D>,
     places: Vec<Place<G>>,
@@ -57,26 +58,54 @@ fn run_over<
     )?;
     let tick = Duration::from_millis(options.tick);
     let switches = Switches::new(alloc, nodes)?.with_tick(tick);
+    // (nobody starts a node that has failed: its guests are done then)
+    switches.close();
     let ran = run_switched(rt, alloc, nodes, disks, rows, &Open, &switches);
     let guests = collect_all(alloc, slots)?;
     match ran {
         Err(refusal) => Err(ClusterError::Run { refusal }),
         Ok(()) => match guests {
             Some(guests) => Ok(guests),
-            None => Err(ClusterError::Over),
+            None => Err(error_of_failed(rt, reasons, nodes, &switches)),
         },
     }
+}
+
+// Why guests were called off: a node of theirs has failed.
+fn error_of_failed<R: AllocGlobal + Wait>(
+    rt: &R,
+    reasons: &Reasons,
+    nodes: Nodes,
+    switches: &Switches,
+) -> ClusterError {
+    for index in 0..nodes.count() {
+        let Some(node) = NodeId::new(nodes, index) else {
+            break;
+        };
+        if let Some(refusal) = switches.failure(rt, node) {
+            return match reasons.text(rt.alloc(), node) {
+                Ok(reason) => ClusterError::Node {
+                    node,
+                    refusal,
+                    reason,
+                },
+                Err(_) => ClusterError::OutOfMemory,
+            };
+        }
+    }
+    ClusterError::Over
 }
 
 /// Opens the cluster of so many nodes in the folder DIR, or makes it where there is none, and runs its nodes in threads. Each guest
 /// asks its node, in a thread of its own. Once all guests have returned, the nodes end, and the guests come back in the order of
 /// their places. What they were acknowledged is on the disks.
 ///
-/// While it runs, no other program opens the folder. A node has 64 guests at most.
+/// While it runs, no other program opens the folder. A node has 64 guests at most. A node that fails goes down alone: its guests are called
+/// off, and those of the others go on.
 ///
 /// # Errors
 /// The first error that a guest has given. `BadTick`; `NoNode`; `InUse`, `Failed`, `Refused`, `Unopened`, of the folder; `Numbers`;
-/// `OutOfMemory`; `Run`, where the nodes' run has failed.
+/// `OutOfMemory`; `Run`, where the nodes' run has failed; `Node`, where a node has failed before a guest of it was done.
 pub fn run_cluster<
     F: Read + Write + Seek + FileExt + OpenFile + Drop + Send + Lockable,
     R: Files<File = F> + AllocGlobal + Threads + Wait + Clock + Sync + MarkWriter,
@@ -97,12 +126,12 @@ pub fn run_cluster<
     let Folders {
         locks,
         disks,
-        reasons: _reasons,
+        reasons,
     } = match open_folders(rt, nodes, dir) {
         Ok(folders) => folders,
         Err(closed) => return Err(error_of(rt.alloc(), closed)),
     };
-    let ran = run_over(rt, nodes, &locks, options, disks, places);
+    let ran = run_over(rt, nodes, &locks, &reasons, options, disks, places);
     drop(locks);
     ran
 }

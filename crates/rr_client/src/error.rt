@@ -13,35 +13,57 @@ pub enum ClusterError {
     OutOfMemory,
     /// A tick that isn't from 10 to 10,000 milliseconds.
     #[error("a tick of {tick} milliseconds is asked for, but it is from 10 to 10000")]
-    BadTick { tick: u64 },
+    BadTick {
+        tick: u64,
+    },
     /// A guest asks a node that isn't there.
     #[error("a guest asks node {node}, but the last of the nodes is {last}")]
-    NoNode { node: u8, last: u8 },
+    NoNode {
+        node: u8,
+        last: u8,
+    },
     /// Another program has locked the folder of this path.
     #[error("{path}: another program has locked it")]
-    InUse { path: String },
+    InUse {
+        path: String,
+    },
     /// A call on this path failed. The reason names the call.
     #[error("{path}: {reason}")]
-    Failed { path: String, reason: String },
+    Failed {
+        path: String,
+        reason: String,
+    },
     /// The folder of this node may not be opened.
     #[error("the folder of node {}: {}", .node.index(), fault_text(.fault))]
-    Refused { node: NodeId, fault: Fault },
+    Refused {
+        node: NodeId,
+        fault: Fault,
+    },
     /// The disk of this node can't be opened.
     #[error("the disk of node {} can't be opened: {}", .node.index(), refusal_text(.refusal))]
-    Unopened { node: NodeId, refusal: Refusal },
+    Unopened {
+        node: NodeId,
+        refusal: Refusal,
+    },
     /// The folder's file `requests` gives no request number.
     #[error("the file requests in the folder: {}", numbers_text(.refusal))]
-    Numbers { refusal: Refusal },
+    Numbers {
+        refusal: Refusal,
+    },
     /// The node hasn't acknowledged this command in time. It may come to be decided; `again` asks it once more.
     #[error("request {} of client {} isn't acknowledged yet, but it may still be decided", .command.request.seq, .command.request.client)]
-    Unacknowledged { command: Command },
+    Unacknowledged {
+        command: Command,
+    },
     /// There is no command that isn't acknowledged, and that `again` could ask once more.
     #[error("no command waits to be asked again")]
     NothingToAsk,
     /// The request number of this command belongs to another one, which counts for it. Somebody else was this client, or the file
     /// `requests` was put back.
     #[error("request {} of client {} is another command: its number was used before", .command.request.seq, .command.request.client)]
-    NumberUsed { command: Command },
+    NumberUsed {
+        command: Command,
+    },
     /// As many commands are decided as a cluster can decide: this one never is.
     #[error("the list of commands is full: the command is never decided")]
     ListFull,
@@ -56,10 +78,21 @@ pub enum ClusterError {
     Late,
     /// The nodes' run has failed.
     #[error("the run has failed: {}", refusal_text(.refusal))]
-    Run { refusal: Refusal },
+    Run {
+        refusal: Refusal,
+    },
+    /// This node has failed, and its guests were called off. The reason names the file, the call and what the system said.
+    #[error("node {} has failed: {}", .node.index(), failure_text(.refusal, .reason))]
+    Node {
+        node: NodeId,
+        refusal: Refusal,
+        reason: Option<String>,
+    },
     /// Bytes that are no name, no value or no number of nodes.
     #[error("{}", refusal_text(.refusal))]
-    Unfit { refusal: Refusal },
+    Unfit {
+        refusal: Refusal,
+    },
 }
 
 // What a refusal means.
@@ -101,6 +134,14 @@ fn fault_text(fault: &Fault) -> &'static str {
         }
         Fault::Outdated =>
             "it is an older copy of itself, so the node can't know any more what it promised",
+    }
+}
+
+// Why a node has failed.
+fn failure_text<'x>(refusal: &Refusal, reason: &'x Option<String>) -> &'x str {
+    match reason {
+        Some(reason) if matches!(refusal, Refusal::Device) => reason.as_str(),
+        _ => refusal_text(refusal),
     }
 }
 

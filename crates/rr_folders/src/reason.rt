@@ -4,7 +4,7 @@
 ghost use Rattle.std.specs.Prelude.{◌≡◌, ◌≤◌, is_ok};
 
 use rr_disk::{Area, AreaFile};
-use rr_types::Nodes;
+use rr_types::{NodeId, Nodes};
 use std::alloc::{AllocError, Global};
 use std::io;
 use std::io::{ErrorKind, Write};
@@ -133,6 +133,23 @@ impl Reasons {
             Some(reason) => Ok(Some(Arc::try_clone(reason)?)),
             None => Ok(None),
         }
+    }
+
+    /// Why a call on the disk of a node failed last: the file, the call and the system's words. None: none has failed.
+    ///
+    /// # Errors
+    /// Those of a text's memory.
+    pub fn text(&self, alloc: Global, node: NodeId) -> Result<Option<String>, AllocError> {
+        let index = node.index();
+        let Some(reason) = self.nodes.get(usize::from(index)) else {
+            return Ok(None);
+        };
+        let Some(failure) = reason.failure() else {
+            return Ok(None);
+        };
+        let Failure { area, call, error } = failure;
+        let call = call.words();
+        Ok(Some(format!(in alloc; "{index}/a{area}: {call}: {error}")?))
     }
 
     /// Prints the first that was noted, in the folder DIR: the file, the call and the system's words. It is false where none was.

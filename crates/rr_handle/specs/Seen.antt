@@ -5,6 +5,8 @@ use Rattle.std.specs.Str.{bytes_eq}
 use Rattle.std.specs.declared.alloc.Global.{Global}
 use Rattle.rr_types.specs.declared.command.Command.{Command}
 use Rattle.rr_types.specs.declared.command.Reply.{Reply}
+use Rattle.rr_types.specs.declared.input.Input.{Input}
+use Rattle.rr_types.specs.declared.message.Message.{Message}
 use Rattle.rr_types.specs.declared.refusal.Refusal.{Refusal}
 use Rattle.rr_types.specs.declared.refusal.Refusal.TheVariants.{Down}
 use Rattle.rr_types.specs.Registry.{reply_of}
@@ -14,7 +16,7 @@ use Rattle.rr_frame.specs.MessageFormat.{message_in}
 use Rattle.rr_host.specs.Disks.{Asked}
 use Rattle.rr_host.specs.Doings.{written_in}
 use Rattle.rr_host.specs.Readings.{name_in}
-use Rattle.rr_host.specs.Hosts.{is_up, core_in, HearsBytes, MarksOn, FlushesOn}
+use Rattle.rr_host.specs.Hosts.{is_up, core_in, IsWhy, HearsBytes, MarksOn, FlushesOn}
 use Rattle.rr_host.specs.declared.doing.Doing.{Doing}
 use Rattle.rr_host.specs.declared.doing.Doing.TheVariants as does
 use Rattle.rr_host.specs.declared.host.Host.{Host}
@@ -31,6 +33,16 @@ seen_of false h = None
 -- the node in a handle, where it is open
 abbrev pub node_in : RrNode → Option Host
 node_in r = seen_of r.is_open r.held.value
+
+-- the state of the node in a handle, where that is up
+abbrev pub state_in : Option Host → Option NodeState
+state_in None = None
+state_in (Some h) = core_in h.doing
+
+-- why the node in a handle isn't told something
+abbrev pub IsWhyIn : Input Message → Option Host → Refusal → Type 0
+IsWhyIn input None e = e ≡ Down
+IsWhyIn input (Some h) e = IsWhy input h.doing e
 
 -- ---- what a call does
 
@@ -124,5 +136,4 @@ IsNextOf None from name place = ⊥
 IsNextOf (Some s) from name place = IsNext from name (decided_prefix s) place
 
 abbrev pub IsNextIn : Option Host → ℕ → List ℕ → ℕ → Type 0
-IsNextIn None from name place = ⊥
-IsNextIn (Some h) from name place = IsNextOf (core_in h.doing) from name place
+IsNextIn node from name place = IsNextOf (state_in node) from name place

@@ -4,8 +4,8 @@ ghost use Rattle.std.specs.Prelude.{◌≡◌, ◌≢◌, ◌⊎◌, None, Err, 
 ghost use Rattle.rr_host.specs.Doings.{written_in};
 ghost use Rattle.rr_host.specs.declared.doing.Doing.TheVariants as does;
 ghost use Rattle.rr_types.specs.declared.input.Input.TheVariants as told;
-ghost use Rattle.rr_host.specs.Hosts.{Tells, TicksOn, StopsTicking, SnapsOn, GoesOn, LeavesOn, AcknowledgesOn};
-ghost use Rattle.rr_handle.specs.Seen.{node_in, Comes, Stages, StopsStaging, IsDue, written_by, HearsIn, IsMalformed};
+ghost use Rattle.rr_host.specs.Hosts.{core_in, Tells, IsWhy, TicksOn, StopsTicking, SnapsOn, GoesOn, LeavesOn, AcknowledgesOn};
+ghost use Rattle.rr_handle.specs.Seen.{node_in, state_in, IsWhyIn, Comes, Stages, StopsStaging, IsDue, written_by, HearsIn, IsMalformed};
 
 use crate::handle::RrNode;
 use core::mem::replace_with;
@@ -43,6 +43,7 @@ impl RrNode {
     pub fn submit(&mut self, command: &Command) -> Result<(), Refusal>
         ensures ok { OnOk result (Comes (Tells (told.Submit command.now)) (node_in self.old) (node_in self.new)) }
         ensures err { OnErr result (node_in self.new ≡ node_in self.old) }
+        ensures cause { IfErr result (IsWhyIn (told.Submit command.now) (node_in self.old)) }
         ensures closed { node_in self.old ≡ None → result ≡ Err Refusal.Down }
     {
         on_host!(self, command, |host, command| submit(&mut host, command))
@@ -150,6 +151,7 @@ impl RrNode {
     pub fn next_ack(&mut self) -> Result<Option<(RequestNo, Reply)>, Refusal>
         ensures ok { IfOk result (λ answer. Comes (λ d e. AcknowledgesOn d answer e) (node_in self.old) (node_in self.new)) }
         ensures err { OnErr result (node_in self.new ≡ node_in self.old) }
+        ensures down { IfErr result (λ e. (e ≡ Refusal.Down) × (state_in (node_in self.old) ≡ None)) }
         ensures closed { node_in self.old ≡ None → result ≡ Err Refusal.Down }
     {
         on_host!(self, (), |host, _nothing| next_ack(&mut host))
@@ -160,6 +162,7 @@ impl RrNode {
 fn submit(host: &mut Host, command: &Command) -> Result<(), Refusal>
     ensures ok { OnOk result (Tells (told.Submit command.now) host.old.doing host.new.doing) }
     ensures err { OnErr result (host.new ≡ host.old) }
+    ensures cause { IfErr result (IsWhy (told.Submit command.now) host.old.doing) }
     ensures rest { host.new ≡ record host.old { doing = host.new.doing } }
 {
     made_of!(Command, Op, Name, Value);
@@ -231,6 +234,7 @@ fn due_write(
 fn next_ack(host: &mut Host) -> Result<Option<(RequestNo, Reply)>, Refusal>
     ensures ok { IfOk result (λ answer. AcknowledgesOn host.old.doing answer host.new.doing) }
     ensures err { OnErr result (host.new ≡ host.old) }
+    ensures down { IfErr result (λ e. (e ≡ Refusal.Down) × (core_in host.old.doing ≡ None)) }
     ensures rest { host.new ≡ record host.old { doing = host.new.doing } }
 {
     if host.is_up() {

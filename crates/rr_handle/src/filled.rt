@@ -21,6 +21,7 @@ pub fn fill(out: &mut [u8], bytes: &[u8])
 pub fn put(out: &mut [u8], bytes: &[u8]) -> Result<usize, Refusal>
     ensures ok { IfOk result (λ len. (len ≡ length bytes.now) × (take len out.new ≡ bytes.now)) }
     ensures err { OnErr result (out.new ≡ out.old) }
+    ensures short { OnErr result (length out.old < length bytes.now) }
 {
     let len = bytes.len();
     if len > out.len() {

@@ -1,11 +1,11 @@
 //! What is read of a handle's node: by what is decided and safe there. The node stays as it is.
 
-ghost use Rattle.std.specs.Prelude.{◌≡◌, None, Some, Err, Ok, false, IfOk, MatchResult, slice_get};
+ghost use Rattle.std.specs.Prelude.{◌≡◌, None, Some, Err, Ok, false, IfOk, IfErr, OnErr, MatchResult, slice_get};
 ghost use Rattle.std.specs.Option.{option_map_or};
 ghost use Rattle.rr_types.specs.Registry.{registry_of, holding_of};
 ghost use Rattle.rr_model.specs.NodeState.{decided_prefix};
 ghost use Rattle.rr_host.specs.Hosts.{is_up, core_in};
-ghost use Rattle.rr_handle.specs.Seen.{node_in, read, of_core, standing_of, status_of, answered_at, IsNextOf, IsNextIn};
+ghost use Rattle.rr_handle.specs.Seen.{node_in, state_in, read, of_core, standing_of, status_of, answered_at, IsNextOf, IsNextIn};
 
 use crate::handle::RrNode;
 use core::mem::replace_with;
@@ -78,6 +78,7 @@ impl RrNode {
     /// `Down`.
     pub fn look(&mut self, name: &Name) -> Result<Option<Holding>, Refusal>
         ensures answer { result ≡ read (of_core (λ s. holding_of (registry_of (decided_prefix s)) name.now)) (node_in self.old) }
+        ensures down { OnErr result (state_in (node_in self.old) ≡ None) }
         ensures same { node_in self.new ≡ node_in self.old }
     {
         in_host!(self, name, |host, name| look(&host, name))
@@ -89,6 +90,7 @@ impl RrNode {
     /// `Down`.
     pub fn bound(&mut self, place: usize) -> Result<Option<(Name, Holding)>, Refusal>
         ensures answer { result ≡ read (of_core (λ s. slice_get (registry_of (decided_prefix s)) place)) (node_in self.old) }
+        ensures down { OnErr result (state_in (node_in self.old) ≡ None) }
         ensures same { node_in self.new ≡ node_in self.old }
     {
         in_host!(self, place, |host, place| bound(&host, place))
@@ -100,6 +102,7 @@ impl RrNode {
     /// `Down`.
     pub fn decided(&mut self, place: usize) -> Result<Option<(Command, Option<Reply>)>, Refusal>
         ensures answer { result ≡ read (of_core (answered_at place)) (node_in self.old) }
+        ensures down { OnErr result (state_in (node_in self.old) ≡ None) }
         ensures same { node_in self.new ≡ node_in self.old }
     {
         made_of!(Command, Op, Name, Value, Reply);
@@ -112,6 +115,7 @@ impl RrNode {
     /// `Down`.
     pub fn watch(&mut self, from: usize, name: &Name) -> Result<usize, Refusal>
         ensures answer { IfOk result (IsNextIn (node_in self.old) from name.now) }
+        ensures down { IfErr result (λ e. (e ≡ Refusal.Down) × (state_in (node_in self.old) ≡ None)) }
         ensures same { node_in self.new ≡ node_in self.old }
     {
         in_host!(self, (from, name), |host, about| {
@@ -158,13 +162,15 @@ fn standing_now(core: &Core) -> Standing
 }
 
 fn look(host: &Host, name: &Name) -> Result<Option<Holding>, Refusal>
-    ensures { result ≡ of_core (λ s. holding_of (registry_of (decided_prefix s)) name.now) host.now.doing }
+    ensures answer { result ≡ of_core (λ s. holding_of (registry_of (decided_prefix s)) name.now) host.now.doing }
+    ensures down { OnErr result (core_in host.now.doing ≡ None) }
 {
     Ok(holding(core_of(host)?, name))
 }
 
 fn bound(host: &Host, place: usize) -> Result<Option<(Name, Holding)>, Refusal>
-    ensures { result ≡ of_core (λ s. slice_get (registry_of (decided_prefix s)) place) host.now.doing }
+    ensures answer { result ≡ of_core (λ s. slice_get (registry_of (decided_prefix s)) place) host.now.doing }
+    ensures down { OnErr result (core_in host.now.doing ≡ None) }
 {
     Ok(bound_at(core_of(host)?, place))
 }
@@ -176,7 +182,8 @@ fn bound_at(core: &Core, place: usize) -> Option<(Name, Holding)>
 }
 
 fn decided(host: &Host, place: usize) -> Result<Option<(Command, Option<Reply>)>, Refusal>
-    ensures { result ≡ of_core (answered_at place) host.now.doing }
+    ensures answer { result ≡ of_core (answered_at place) host.now.doing }
+    ensures down { OnErr result (core_in host.now.doing ≡ None) }
 {
     made_of!(Command, Op, Name, Value, Reply);
     let core = core_of(host)?;
@@ -187,7 +194,7 @@ fn decided(host: &Host, place: usize) -> Result<Option<(Command, Option<Reply>)>
 }
 
 fn watch(host: &Host, from: usize, name: &Name) -> Result<usize, Refusal>
-    ensures { IfOk result (IsNextOf (core_in host.now.doing) from name.now) }
+    ensures { MatchResult result (IsNextOf (core_in host.now.doing) from name.now) (λ e. (e ≡ Refusal.Down) × (core_in host.now.doing ≡ None)) }
 {
     Ok(next_about(core_of(host)?, from, name))
 }

@@ -1,8 +1,9 @@
 -- The calls of a board, by which a shell asks the clients of nodes, and stops and starts the nodes.
-use Rattle.std.specs.Prelude.{◌≡◌, ◌⊎◌, ℕ, Bool, true, false, None}
+use Rattle.std.specs.Prelude.{◌≡◌, ◌⊎◌, ℕ, Bool, true, false, Option, None, Some, is_some}
 use Rattle.rr_types.specs.declared.command.Command.{Command}
 use Rattle.rr_types.specs.declared.command.RequestNo.{RequestNo}
 use Rattle.rr_types.specs.declared.refusal.Refusal.{Refusal}
+use Rattle.rr_types.specs.declared.summary.NodeSummary.{NodeSummary}
 use Rattle.rr_shell.specs.declared.outcome.Outcome.{Outcome}
 use Rattle.rr_shell.specs.declared.outcome.Outcome.TheVariants.{Nothing}
 use Rattle.rr_shell.specs.Deeds as deeds
@@ -12,13 +13,14 @@ use Rattle.rr_run.specs.declared.asking.Question.TheVariants as asks
 use Rattle.rr_run.specs.declared.asking.Told.{Told}
 use Rattle.rr_run.specs.Questions.{node_of, outcome_in, sight_in, listing_in, is_written, summary_in}
 
--- a call, with what it was given and answered: a node is found to be on, or to be up, or not; all are found to be up, or not; a node is
--- turned off, or on; a question is left; a node's client is rung for; what is told is taken; nothing is told behind a look that saw the
+-- a call, with what it was given and answered: a node is found to be on, or to be up, or not; all are found to have begun, or not; a node is
+-- found to have gone down by a refusal, or not; it is turned off, or on; a question is left; a node's client is rung for; what is told is taken; nothing is told behind a look that saw the
 -- end of the run, or didn't; the run is found to be over, or not; and it has ended by a refusal
 pub data Call : Type 0 where
   finds_on : (node : ℕ) (is_on : Bool) → Call
   finds_up : (node : ℕ) (is_up : Bool) → Call
-  finds_all_up : (are_up : Bool) → Call
+  finds_begun : (have_begun : Bool) → Call
+  finds_failed : (node : ℕ) (refusal : Option Refusal) → Call
   turns_off : (node : ℕ) → Call
   turns_on : (node : ℕ) → Call
   leaves : (question : Question) → Call
@@ -66,29 +68,38 @@ abbrev pub IsTurned : {B : Type 0} → (B → Call → B → Type 0) → ℕ →
 IsTurned gives p true from to = gives from (turns_on p) to
 IsTurned {B} gives p false from to = (mid : B) × gives from (turns_off p) mid × gives mid (rings p) to
 
--- a node was turned on, and then found to be up; or off, and then found not to be
-abbrev pub IsSwitched : {B : Type 0} → (B → Call → B → Type 0) → ℕ → Bool → B → B → Type 0
-IsSwitched gives p is_on from to = IsTurned gives p is_on from to × gives to (finds_up p is_on) to
+-- a node was turned on, and then found to be up; or off, and then found not to be. Or it isn't so: it was found to be off
+abbrev pub IsSwitched : {B : Type 0} → (B → Call → B → Type 0) → ℕ → Bool → Bool → B → B → Type 0
+IsSwitched gives p is_on true from to = IsTurned gives p is_on from to × gives to (finds_up p is_on) to
+IsSwitched gives p is_on false from to = IsTurned gives p is_on from to × gives to (finds_on p false) to
 
 -- at some time a question was told this
 abbrev pub WasTold : {B : Type 0} → (B → Call → B → Type 0) → Question → Told → Type 0
 WasTold {B} gives question t = (from : B) × (to : B) × IsTold gives question t from to
 
--- at some time a node was switched; it was found to be on, or not to be
-abbrev pub WasSwitched : {B : Type 0} → (B → Call → B → Type 0) → ℕ → Bool → Type 0
-WasSwitched {B} gives p is_on = (from : B) × (to : B) × IsSwitched gives p is_on from to
+-- at some time a node was switched, and is so, or isn't; it was found to be on, or not to be; it was found to have gone down by a refusal,
+-- or not
+abbrev pub WasSwitched : {B : Type 0} → (B → Call → B → Type 0) → ℕ → Bool → Bool → Type 0
+WasSwitched {B} gives p is_on is_so = (from : B) × (to : B) × IsSwitched gives p is_on is_so from to
 
 abbrev pub WasFound : {B : Type 0} → (B → Call → B → Type 0) → ℕ → Bool → Type 0
 WasFound {B} gives p is_on = (at : B) × gives at (finds_on p is_on) at
+
+abbrev pub WasFailed : {B : Type 0} → (B → Call → B → Type 0) → ℕ → Option Refusal → Type 0
+WasFailed {B} gives p refusal = (at : B) × gives at (finds_failed p refusal) at
+
+-- at some time a node was down: it was found not to be on, or it was asked how it is, and didn't tell
+abbrev pub WasDown : {B : Type 0} → (B → Call → B → Type 0) → ℕ → Type 0
+WasDown gives p = WasFound gives p false ⊎ ((t : Told) × WasTold gives (asks.Summary p) t × (summary_in t ≡ None))
 
 -- what came of a request, by what was told to the question that submits it
 abbrev pub Came : {B : Type 0} → (B → Call → B → Type 0) → Question → RequestNo → Outcome → Type 0
 Came gives question q o = (t : Told) × WasTold gives question t × (o ≡ outcome_in (node_of question) q t)
 
--- what was done, by the calls that were made: all nodes were found to be up. Or for a line: the node of the line was asked what it asks, and
+-- what was done, by the calls that were made: all nodes were found to have begun. Or for a line: the node of the line was asked what it asks, and
 -- what came of that was told; or that node was switched, or was found to be on, or not to be
 abbrev pub DidBy : {B : Type 0} → (B → Call → B → Type 0) → Deed → Type 0
-DidBy {B} gives waits = (at : B) × gives at (finds_all_up true) at
+DidBy {B} gives waits = (at : B) × gives at (finds_begun true) at
 DidBy gives (submits p op o) = (q : RequestNo) × Came gives (asks.Submit p (record { request = q; op = op })) q o
 DidBy gives (repeats p o) = (o ≡ Nothing) ⊎ ((c : Command) × Came gives (asks.Submit p c) c.request o)
 DidBy gives (catches_up p o) = (q : RequestNo) × Came gives (asks.Sync p q) q o
@@ -97,12 +108,13 @@ DidBy gives (lists p prefix l) = (t : Told) × WasTold gives (asks.Names p prefi
 DidBy gives (observes p prefix) = (t : Told) × WasTold gives (asks.Watch p prefix) t
 DidBy gives (deeds.finds_on p) = WasFound gives p true
 DidBy gives (finds_off p) = WasFound gives p false
-DidBy gives (stops p) = WasSwitched gives p false
-DidBy gives (starts p) = WasSwitched gives p true
+DidBy gives (stops p) = WasSwitched gives p false true
+DidBy gives (starts p is_up) = WasSwitched gives p true is_up
 DidBy gives (snaps p written) =
     (WasFound gives p false × (written ≡ false)) ⊎ ((t : Told) × WasTold gives (asks.Snapshot p) t × (written ≡ is_written t))
 DidBy gives (tells s) =
-    (WasFound gives s.node false × (s.summary ≡ None)) ⊎ ((t : Told) × WasTold gives (asks.Summary s.node) t × (s.summary ≡ summary_in t))
+    ((t : Told) × (k : NodeSummary) × WasTold gives (asks.Summary s.node) t × (summary_in t ≡ Some k) × (s.summary ≡ Some k) × (s.failure ≡ None))
+    ⊎ ((s.summary ≡ None) × WasDown gives s.node × ((e : Option Refusal) × WasFailed gives s.node e × (is_some s.failure ≡ is_some e)))
 
 -- any call: nothing is said of what the calls of a post do
 abbrev pub any_call : {B : Type 0} → B → Call → B → Type 0

@@ -70,6 +70,8 @@ pub(crate) enum Told {
     /// That a snapshot is written, if it is.
     Written(Option<Written>),
     Greatest(Greatest),
+    /// Nothing: the node has gone down before it told something.
+    Gone,
 }
 
 /// What names begin with: with anything, where no prefix is asked for.

@@ -1,7 +1,7 @@
 //! The board by which a shell asks the clients of nodes, and stops and starts the nodes.
 
 ghost use Rattle.std.specs.Prelude.{◌≡◌, true, None, IfOk, IfErr, IfSome, OnOk};
-ghost use Rattle.rr_run.specs.Boards.{Call, finds_on, finds_up, finds_all_up, turns_off, turns_on, leaves, rings, takes, misses, finds_over, ends, IsTold, IsUnanswered, IsTurned, IsSwitched, IsCutOff};
+ghost use Rattle.rr_run.specs.Boards.{Call, finds_on, finds_up, finds_begun, finds_failed, turns_off, turns_on, leaves, rings, takes, misses, finds_over, ends, IsTold, IsUnanswered, IsTurned, IsSwitched, IsCutOff};
 ghost use Rattle.rr_run.specs.Questions.{node_of};
 
 use crate::asking::{Question, Told};
@@ -24,9 +24,13 @@ pub(crate) trait Board {
     fn is_up(&self, node: NodeId) -> bool
         ensures { gives self.now (finds_up node result) self.now };
 
-    /// Whether all nodes are up.
-    fn are_all_up(&self) -> bool
-        ensures { gives self.now (finds_all_up result) self.now };
+    /// Whether all nodes have begun: each is up, or has gone down again.
+    fn have_all_begun(&self) -> bool
+        ensures { gives self.now (finds_begun result) self.now };
+
+    /// The refusal by which a node went down, if it went down by one and hasn't been started since.
+    fn failure<R: Wait>(&self, rt: &R, node: NodeId) -> Option<Refusal>
+        ensures { gives self.now (finds_failed node result) self.now };
 
     /// A node is to go down.
     fn turn_off(&mut self, node: NodeId) -> Cause
@@ -50,8 +54,12 @@ pub(crate) trait Board {
     fn look_at_end(&self) -> Seen
         ensures { gives self.now (finds_over result.has_ended) self.now };
 
+    /// The same behind a look at a node, whether it is down, so that it tells nothing any more.
+    fn look_at(&self, node: NodeId) -> Seen
+        ensures { gives self.now (finds_over result.has_ended) self.now };
+
     /// Takes what is told, once it lies there. It is looked for behind this look at the end of the run: where that saw the end, and
-    /// nothing lies there, nothing is told any more.
+    /// nothing lies there, nothing is told any more. Where it saw that the node is down, and nothing lies there, that is told.
     fn take<R: Wait>(&mut self, rt: &R, seen: &Seen) -> Option<Told>
         ensures told { IfSome result (λ told. gives self.old (takes told) self.new) }
         ensures none { result ≡ None → gives self.old (misses seen.now.has_ended) self.new };
@@ -70,16 +78,16 @@ pub(crate) trait Board {
     fn linger<R: Wait>(&self, rt: &R);
 }
 
-/// Waits until all nodes are up, so that they can be asked.
+/// Waits until all nodes have begun, so that they can be asked.
 ///
 /// # Errors
 /// The refusal by which the run has ended; `Down`, where it has ended without one.
 pub(crate) fn wait_until_begun<B: Board, R: Wait>(board: &B, rt: &R) -> Result<(), Refusal>
-    ensures ok { OnOk result (B.gives board.now (finds_all_up true) board.now) }
+    ensures ok { OnOk result (B.gives board.now (finds_begun true) board.now) }
     ensures err { IfErr result (λ e. IsCutOff B.gives e board.now) }
 {
     for _ in rt.forever() {
-        if board.are_all_up() {
+        if board.have_all_begun() {
             return Ok(());
         }
         if board.look_at_end().has_ended() {
@@ -105,7 +113,7 @@ pub(crate) fn ask<B: Board, R: Wait>(
     let left = board.leave(rt, question);
     board.ring(&left);
     for _ in rt.forever() {
-        let seen = board.look_at_end();
+        let seen = board.look_at(question.node());
         if let Some(told) = board.take(rt, &seen) {
             return Ok(told);
         }
@@ -129,7 +137,7 @@ fn turn<B: Board>(board: &mut B, node: NodeId, is_on: bool)
     }
 }
 
-/// Stops a node or starts it, and waits until it is down or up.
+/// Stops a node or starts it, and waits until it is down or up. Answers whether it is: a node that is started may fail.
 ///
 /// # Errors
 /// As of `wait_until_begun`.
@@ -138,14 +146,18 @@ pub(crate) fn switch<B: Board, R: Wait>(
     rt: &R,
     node: NodeId,
     is_on: bool,
-) -> Result<(), Refusal>
-    ensures ok { OnOk result (IsSwitched B.gives node is_on board.old board.new) }
+) -> Result<bool, Refusal>
+    ensures ok { IfOk result (λ is_so. IsSwitched B.gives node is_on is_so board.old board.new) }
+    ensures stop { is_on ≡ false → IfOk result (λ is_so. is_so ≡ true) }
     ensures err { IfErr result (λ e. IsTurned B.gives node is_on board.old board.new × IsCutOff B.gives e board.new) }
 {
     turn(board, node, is_on);
     for _ in rt.forever() {
         if board.is_up(node) == is_on {
-            return Ok(());
+            return Ok(true);
+        }
+        if is_on && !board.is_on(node) {
+            return Ok(false);
         }
         if board.look_at_end().has_ended() {
             return Err(board.ending());

@@ -11,11 +11,14 @@ ghost use Rattle.rr_run.specs.Numbers.{greatest_told, HaveTold, IsNext, IsBehind
 
 use crate::asking::{Question, Told, is_written, listing_in, outcome_in, sight_in, summary_in};
 use crate::board::{Board, ask, switch, wait_until_begun};
+use crate::failures::failure_text;
 use crate::news::{Ear, next_changes};
-use rr_folders::{Block, Locks};
+use rr_folders::{Block, Locks, Reasons};
 use rr_shell::{Asked, Hint, Listing, NodeStatus, Outcome, is_nearly_full, left_behind};
 use rr_text::Answer;
-use rr_types::{Command, Name, NodeId, Nodes, Op, Refusal, Reply, RequestNo, Value, made_of};
+use rr_types::{
+    Command, Name, NodeId, NodeSet, Nodes, Op, Refusal, Reply, RequestNo, Value, made_of,
+};
 use rr_window::Change;
 use std::fs::OpenFile;
 use std::io::{Read, Seek, Write};
@@ -24,10 +27,11 @@ use std::rt::Files;
 use std::sync::Wait;
 
 /// The nodes that a shell asks, as this client, with the request numbers of a folder that is locked; the command that isn't
-/// acknowledged and may be asked again; what a person is to be told; and where the changes are heard that are watched.
+/// acknowledged and may be asked again; what a person is to be told; where the changes are heard that are watched; and of which failed nodes a person was told.
 #[derive(Drop)]
 pub(crate) struct Console<'x, B, F, R> {
     pub(crate) rt: &'x R,
+    pub(crate) reasons: &'x Reasons,
     pub(crate) locks: Locks<F>,
     pub(crate) nodes: Nodes,
     pub(crate) client: u32,
@@ -37,6 +41,7 @@ pub(crate) struct Console<'x, B, F, R> {
     pub(crate) hint: Option<Hint>,
     pub(crate) has_warned: bool,
     pub(crate) ear: Option<Ear>,
+    pub(crate) failed: NodeSet,
 }
 
 // The command that is kept to be asked again, behind what a submit of it has come to.
@@ -217,6 +222,22 @@ impl<
         Ok(outcome_in(node, request, &told))
     }
 
+    // A node that has failed since a person was told of it last.
+    fn take_failed(&mut self) -> Option<NodeId>
+        ensures kept { self.new.unanswered ≡ self.old.unanswered }
+    {
+        for index in 0..self.nodes.count() {
+            let node = NodeId::new(self.nodes, index)?;
+            if self.board.failure(self.rt, node).is_none() {
+                self.failed = self.failed.without(node);
+            } else if !self.failed.contains(node) {
+                self.failed = self.failed.with(node);
+                return Some(node);
+            }
+        }
+        None
+    }
+
     // What a person is told now, and then no more.
     fn take_hint(&mut self) -> Option<Hint>
         ensures told { result ≡ self.old.hint }
@@ -269,7 +290,10 @@ impl<
     }
 
     fn hint(&mut self) -> Option<Hint> {
-        self.take_hint()
+        match self.take_hint() {
+            Some(hint) => Some(hint),
+            None => Some(Hint::Failed(self.take_failed()?)),
+        }
     }
 
     fn look(&mut self, node: NodeId, name: &Name) -> Result<Answer, Refusal> {
@@ -317,10 +341,11 @@ impl<
     }
 
     fn stop(&mut self, node: NodeId) -> Result<(), Refusal> {
-        switch(&mut self.board, self.rt, node, false)
+        let _is_down = switch(&mut self.board, self.rt, node, false)?;
+        Ok(())
     }
 
-    fn start(&mut self, node: NodeId) -> Result<(), Refusal> {
+    fn start(&mut self, node: NodeId) -> Result<bool, Refusal> {
         switch(&mut self.board, self.rt, node, true)
     }
 
@@ -333,14 +358,24 @@ impl<
     }
 
     fn status(&mut self, node: NodeId) -> Result<NodeStatus, Refusal> {
-        if !self.board.is_on(node) {
-            return Ok(NodeStatus {
-                node,
-                summary: None,
-            });
+        if self.board.is_on(node) {
+            let told = ask(&mut self.board, self.rt, &Question::Summary { node })?;
+            if let Some(summary) = summary_in(&told) {
+                return Ok(NodeStatus {
+                    node,
+                    summary: Some(summary),
+                    failure: None,
+                });
+            }
         }
-        let told = ask(&mut self.board, self.rt, &Question::Summary { node })?;
-        let summary = summary_in(&told);
-        Ok(NodeStatus { node, summary })
+        let failure = match self.board.failure(self.rt, node) {
+            Some(refusal) => Some(failure_text(self.rt.alloc(), self.reasons, node, &refusal)?),
+            None => None,
+        };
+        Ok(NodeStatus {
+            node,
+            summary: None,
+            failure,
+        })
     }
 }

@@ -1,14 +1,13 @@
-//! What a shell takes where words are left out.
+//! What a shell takes where words are left out, and what it tells of that.
 
 ghost use Rattle.std.specs.Prelude.{◌≡◌, ℕ, IfSome, Option, None, option_map};
 ghost use Rattle.rr_run.specs.Shells.{IsNodesBy};
 
-use rr_cli::{ShellWords, nodes_of};
+use rr_cli::nodes_of;
 use rr_folders::read_only_disk;
 use rr_journal::inspect;
 use rr_shell::Prompting;
 use rr_types::Nodes;
-use std::alloc::Global;
 use std::os::unix::fs::FileExt;
 use std::rt::Files;
 
@@ -65,22 +64,27 @@ where
     }
 }
 
-/// Shows what is taken for words that were left out, where somebody types.
-pub(crate) fn show_defaults<I: Prompting>(
-    alloc: Global,
-    words: &ShellWords<'_>,
+/// Shows what a shell runs over, where somebody types: how many nodes, which folder and whether a registry is new there, who asks, and which
+/// node is asked first.
+pub(crate) fn show_begin<R: Files + AllocGlobal, I: Prompting>(
+    rt: &R,
     nodes: Nodes,
     dir: &str,
+    client: u32,
     input: &mut I,
 )
+where
+    R::File: FileExt,
     ensures { I.reading input.new ≡ I.reading input.old }
 {
-    if words.nodes.is_some() && words.dir.is_some() {
-        return;
-    }
     let count = nodes.count();
-    let Ok(text) = format!(in alloc;
-        "rr: --nodes {count} --dir {dir}; \"help\" lists the commands, \"quit\" or Ctrl-D ends\n"
+    let kind = if nodes_there(rt, dir).is_none() {
+        "a new registry"
+    } else {
+        "the registry"
+    };
+    let Ok(text) = format!(in rt.alloc();
+        "rr: {kind} in {dir}, of {count} nodes; you are client {client}, and ask node 0; \"help\" lists the commands, \"quit\" or Ctrl-D ends\n"
     ) else {
         return;
     };

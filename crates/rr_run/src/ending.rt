@@ -11,10 +11,12 @@ pub(crate) struct Ending {
     end: OnceLock<Option<Refusal>>,
 }
 
-/// What a look at the end of a run saw. Only `Ending::look` gives this, so whoever is given it comes behind that look.
+/// What a look at the end of a run saw, and before it a look at a node. Only `Ending::look` gives this, so whoever is given it comes behind
+/// that look.
 #[derive(Drop)]
 pub(crate) struct Seen {
     has_ended: bool,
+    is_gone: bool,
 }
 
 /// That a run has ended so, as it is noted. Only `Ending::note` gives this.
@@ -43,10 +45,13 @@ impl Ending {
         }
     }
 
-    /// Whether the run has ended by now.
-    pub(crate) fn look(&self) -> Seen {
+    /// Whether the run has ended by now, behind a look at whether a node is gone.
+    pub(crate) fn look(&self, is_gone: bool) -> Seen
+        ensures { result.is_gone ≡ is_gone }
+    {
         Seen {
             has_ended: self.end.get().is_some(),
+            is_gone,
         }
     }
 
@@ -71,5 +76,12 @@ impl Seen {
         ensures { result ≡ self.now.has_ended }
     {
         self.has_ended
+    }
+
+    /// Whether the node that was looked at was down, so that it tells nothing any more.
+    pub(crate) fn is_gone(&self) -> bool
+        ensures { result ≡ self.now.is_gone }
+    {
+        self.is_gone
     }
 }

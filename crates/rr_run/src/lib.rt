@@ -41,6 +41,7 @@ mod closed;
 mod console;
 mod defaults;
 mod ending;
+mod failures;
 mod news;
 mod post;
 mod program;

@@ -118,18 +118,32 @@ impl Post {
         ended
     }
 
-    /// The refusal by which the run has ended, if one has.
-    pub(crate) fn into_refusal(self) -> Option<Refusal> {
+    /// The refusal by which the run has ended, if one has; or else that by which a node went down, the lowest one's.
+    pub(crate) fn into_refusal<R: Wait>(self, rt: &R, nodes: Nodes) -> Option<Refusal> {
         let Post {
-            switches: _,
+            switches,
             slip: _,
             ending,
             is_closed: _,
             shell: _,
             clients: _,
         } = self;
-        ending.into_refusal()
+        match ending.into_refusal() {
+            Some(refusal) => Some(refusal),
+            None => first_failure(rt, nodes, &switches),
+        }
     }
+}
+
+// The refusal by which the lowest node went down that went down by one and hasn't been started since.
+fn first_failure<R: Wait>(rt: &R, nodes: Nodes, switches: &Switches) -> Option<Refusal> {
+    for index in 0..nodes.count() {
+        let node = NodeId::new(nodes, index)?;
+        if let Some(refusal) = switches.failure(rt, node) {
+            return Some(refusal);
+        }
+    }
+    None
 }
 
 /// A shell at a post, as its board.
@@ -149,8 +163,12 @@ impl Board for AtPost<'_> {
         self.post.switches.is_up(node)
     }
 
-    fn are_all_up(&self) -> bool {
-        self.post.switches.are_all_up()
+    fn have_all_begun(&self) -> bool {
+        self.post.switches.have_all_begun()
+    }
+
+    fn failure<R: Wait>(&self, rt: &R, node: NodeId) -> Option<Refusal> {
+        self.post.switches.failure(rt, node)
     }
 
     fn turn_off(&mut self, node: NodeId) -> Cause {
@@ -176,13 +194,20 @@ impl Board for AtPost<'_> {
     }
 
     fn look_at_end(&self) -> Seen {
-        self.post.ending.look()
+        self.post.ending.look(false)
     }
 
-    fn take<R: Wait>(&mut self, rt: &R, _seen: &Seen) -> Option<Told> {
+    fn look_at(&self, node: NodeId) -> Seen {
+        let is_gone = !self.is_on(node) && !self.is_up(node);
+        self.post.ending.look(is_gone)
+    }
+
+    fn take<R: Wait>(&mut self, rt: &R, seen: &Seen) -> Option<Told> {
         let mut slip = self.post.slip.lock(rt);
         match mem::replace(&mut *slip, Slip::Nothing) {
             Slip::Answered(told) => Some(told),
+            // (the question is withdrawn: the node's next life would answer it)
+            _ if seen.is_gone() => Some(Told::Gone),
             other => {
                 *slip = other;
                 None

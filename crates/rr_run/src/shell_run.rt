@@ -11,7 +11,7 @@ ghost use Rattle.rr_run.specs.Shells.{IsClientBy, EndsOnTalk, EndsOnShell, EndsO
 use crate::beside::talk_beside;
 use crate::closed::end_by_closed;
 use crate::console::Console;
-use crate::defaults::{FOLDER, nodes_by, show_defaults};
+use crate::defaults::{FOLDER, nodes_by, show_begin};
 use crate::post::{AtPost, Post};
 use crate::script_run::end_by_run_fault;
 use crate::teller::tellers;
@@ -21,7 +21,7 @@ use rr_folders::{Block, Folders, Lockable, MarkWriter, Reasons, open_folders};
 use rr_shell::{Prompting, Stop, Trouble};
 use rr_stream::{Counted, Sink};
 use rr_text::text_word::{push_byte, push_bytes};
-use rr_types::{Nodes, Refusal};
+use rr_types::{NodeSet, Nodes, Refusal};
 use rr_words::LAST_CLIENT;
 use std::alloc::Global;
 use std::fs::OpenFile;
@@ -112,6 +112,7 @@ where
     };
     let console = Console {
         rt,
+        reasons: &reasons,
         locks,
         nodes,
         client,
@@ -121,11 +122,20 @@ where
         hint: None,
         has_warned: false,
         ear: None,
+        failed: NodeSet::empty(),
     };
     let talked = talk_beside(
         rt, nodes, disks, clients, &post, json, strict, console, input, out,
     );
-    end_by_talk(rt, err, dir, nodes, &reasons, talked, post.into_refusal())
+    end_by_talk(
+        rt,
+        err,
+        dir,
+        nodes,
+        &reasons,
+        talked,
+        post.into_refusal(rt, nodes),
+    )
 }
 
 // Ends by a file of request numbers that none can be reserved in. A second line tells it.
@@ -275,7 +285,7 @@ where
     let lines = words.lines.as_slice();
     match lines {
         [] => {
-            show_defaults(rt.alloc(), words, nodes, dir, input);
+            show_begin(rt, nodes, dir, client, input);
             shell_over(rt, nodes, dir, client, tick, json, strict, input, out, err)
         }
         [_, ..] => shell_by_lines(rt, nodes, dir, client, tick, json, strict, lines, out, err),

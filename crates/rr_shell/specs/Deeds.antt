@@ -8,7 +8,7 @@ use Rattle.rr_shell.specs.declared.status.NodeStatus.{NodeStatus}
 
 -- what is done: all nodes are waited for, until they can be asked. Or what is done at a node, and what came of it: an operation is
 -- submitted there, or what is kept is submitted again, or a sync; a name is looked at, names are listed, or a watch of names begins; the
--- node is found to be on, or not to be; it is stopped, or started; it is asked for a snapshot, which is written or not; or it tells of itself
+-- node is found to be on, or not to be; it is stopped, or started, and is up or has failed again; it is asked for a snapshot, which is written or not; or it tells of itself
 pub data Deed : Type 0 where
   waits : Deed
   submits : (node : ℕ) (op : Op) (outcome : Outcome) → Deed
@@ -20,6 +20,6 @@ pub data Deed : Type 0 where
   finds_on : (node : ℕ) → Deed
   finds_off : (node : ℕ) → Deed
   stops : (node : ℕ) → Deed
-  starts : (node : ℕ) → Deed
+  starts : (node : ℕ) (is_up : Bool) → Deed
   snaps : (node : ℕ) (is_written : Bool) → Deed
   tells : (status : NodeStatus) → Deed

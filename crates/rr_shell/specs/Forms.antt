@@ -5,8 +5,9 @@ use Rattle.rr_types.specs.declared.binding.Binding.{Binding}
 use Rattle.rr_text.specs.declared.answer.Answer.{Answer}
 use Rattle.rr_text.specs.declared.answer.Answer.TheVariants.{Acknowledged}
 use Rattle.rr_shell.specs.declared.status.NodeStatus.{NodeStatus}
+use Rattle.rr_shell.specs.declared.status.NodeTrouble.{NodeTrouble}
 use Rattle.rr_shell.specs.declared.shell_line.LineFault.{LineFault}
-use Rattle.rr_shell.specs.Texts.{answer_line, synced_line, list_lines, watching_line, changed_line, freed_line, late_line, late_text, move_line, stop_line, start_line, snapshot_line, no_snapshot_line, no_snapshot_text, down_line, down_text, status_line, help_line, help_text, fault_line, fault_text, used_text, full_text, nothing_text}
+use Rattle.rr_shell.specs.Texts.{answer_line, synced_line, list_lines, watching_line, changed_line, freed_line, late_line, late_text, move_line, stop_line, start_line, snapshot_line, trouble_line, trouble_text, status_line, help_line, help_text, fault_line, fault_text, used_text, full_text, nothing_text}
 use Rattle.rr_types.specs.declared.command.Command.{Command}
 use Rattle.rr_shell.specs.declared.outcome.Outcome.{Outcome}
 use Rattle.rr_shell.specs.declared.outcome.Outcome.TheVariants.{Answered, ListFull, Used, Nothing}
@@ -81,13 +82,9 @@ start_said json p = if json then node_object (codes "started") p else start_line
 abbrev pub snapshot_said : Bool → ℕ → List ℕ
 snapshot_said json p = if json then node_object (codes "snapshot") p else snapshot_line p
 
--- that node p hasn't
-abbrev pub no_snapshot_said : Bool → ℕ → List ℕ
-no_snapshot_said json p = if json then text_object (codes "error") (no_snapshot_text p) else no_snapshot_line p
-
--- that node p, which is asked, is down
-abbrev pub down_said : Bool → ℕ → List ℕ
-down_said json p = if json then text_object (codes "error") (down_text p) else down_line p
+-- that node p doesn't do what is asked of it
+abbrev pub trouble_said : NodeTrouble → Bool → ℕ → List ℕ
+trouble_said t json p = if json then text_object (codes "error") (trouble_text t p) else trouble_line t p
 
 -- what a node tells of itself
 abbrev pub status_said : Bool → NodeStatus → List ℕ

@@ -1,6 +1,7 @@
 -- What is said to a line of a shell as JSON: an object for each line of words.
 use Rattle.std.specs.Prelude.{ℕ, List, [], ◌∷◌, ◌++◌, length, Option, None, Some, codes}
 use Rattle.std.specs.List.{flat_map}
+use Rattle.std.specs.Option.{option_map}
 use Rattle.rr_text.specs.ReportTexts.{reply_words}
 use Rattle.rr_types.specs.declared.binding.Binding.{Binding}
 use Rattle.rr_text.specs.declared.answer.Answer.{Answer}
@@ -63,17 +64,25 @@ freed_object name = object_line (codes "freed") (text_member (codes "name") name
 abbrev pub node_object : List ℕ → ℕ → List ℕ
 node_object word p = object_line word (number_member (codes "node") p)
 
+-- that a node is down; and if it has failed, why
+abbrev pub failed_member : Option (List ℕ) → List ℕ
+failed_member None = []
+failed_member (Some why) = words_member (codes "failed") why
+
+abbrev pub down_members : Option (List ℕ) → List ℕ
+down_members failure = (label (codes "up") ++ codes "false") ++ failed_member failure
+
 -- that a node is down; or that it is up, and what it knows: bit q of its suspects is node q
-abbrev pub summary_members : Option NodeSummary → List ℕ
-summary_members None = label (codes "up") ++ codes "false"
-summary_members (Some k) =
+abbrev pub state_members : Option NodeSummary → Option (List ℕ) → List ℕ
+state_members None failure = down_members failure
+state_members (Some k) failure =
     (label (codes "up") ++ codes "true") ++ number_member (codes "facts") k.facts
     ++ number_member (codes "decided") k.decided
     ++ number_member (codes "left") (left_behind k.decided) ++ number_member (codes "suspects") k.suspects
 
 -- what a node tells of itself
 abbrev pub status_object : NodeStatus → List ℕ
-status_object s = object_line (codes "node") (number_member (codes "node") s.node ++ summary_members s.summary)
+status_object s = object_line (codes "node") (number_member (codes "node") s.node ++ state_members s.summary (option_map (λ v. v.items) s.failure))
 
 -- the beginning of an object of this kind that has a text, and its end
 abbrev pub text_opened : List ℕ → List ℕ

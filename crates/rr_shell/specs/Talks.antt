@@ -15,6 +15,7 @@ use Rattle.rr_shell.specs.declared.listing.Listing.{Listing}
 use Rattle.rr_shell.specs.declared.outcome.Outcome.{Outcome}
 use Rattle.rr_shell.specs.declared.outcome.Outcome.TheVariants as outcome
 use Rattle.rr_shell.specs.declared.status.NodeStatus.{NodeStatus}
+use Rattle.rr_shell.specs.declared.status.NodeTrouble.TheVariants as troubles
 use Rattle.rr_shell.specs.declared.shell_line.ShellLine.{ShellLine}
 use Rattle.rr_shell.specs.declared.shell_line.ShellLine.TheVariants.{Submit, Look, Names, Watch, Sync, At, Stop, Start, Snapshot, Status, Again, Help, Quit}
 use Rattle.rr_shell.specs.declared.shell_line.LineFault.{LineFault}
@@ -31,7 +32,7 @@ use Rattle.rr_shell.specs.Troubles.{answer_trouble, outcome_trouble, sync_troubl
 use Rattle.rr_shell.specs.declared.troubles.Trouble.{Trouble}
 use Rattle.rr_shell.specs.declared.troubles.Trouble.TheVariants.{Error}
 use Rattle.rr_shell.specs.Listings.{is_listing_at}
-use Rattle.rr_shell.specs.Forms.{answer_said, outcome_said, sync_said, list_said, move_said, stop_said, start_said, snapshot_said, no_snapshot_said, down_said, status_said, help_said, fault_said}
+use Rattle.rr_shell.specs.Forms.{answer_said, outcome_said, sync_said, list_said, move_said, stop_said, start_said, snapshot_said, trouble_said, status_said, help_said, fault_said}
 
 -- whether an answer is node p's to a submit
 abbrev pub is_reply_at : ℕ → Answer → Bool
@@ -99,6 +100,7 @@ asks_node _ = false
 -- what is said to a line that asks for something at node p of n nodes, the node that is asked then, why that isn't what it
 -- asks for, if it isn't, and what is watched until the next line. Said is what came of a submit, a look or a sync at node p, or
 -- that this node was found not to be on; the names that it listed; the node that the line moves to, has stopped or has started; that a node
+-- was started and has failed again; that a node
 -- has written a snapshot, or hasn't; what each node told; or the commands
 pub data Grants (Did : Deed → Type 0) (json : Bool) (n p : ℕ) : ShellLine → ℕ → List ℕ → Option Trouble → Option Watched → Type 0 where
   submitted : (op : Op) (o : Outcome) → is_outcome_at p o ≡ true → Did (submits p op o)
@@ -110,12 +112,13 @@ pub data Grants (Did : Deed → Type 0) (json : Bool) (n p : ℕ) : ShellLine �
   listed : (prefix : Option (List ℕ)) (l : Listing) → is_listing_at p prefix l ≡ true → Did (lists p prefix l)
       → Grants Did json n p (Names prefix) p (list_said json l.names) (listing_trouble l.names) None
   watches : (prefix : Option (List ℕ)) → Grants Did json n p (Watch prefix) p [] None (Some (record { prefix = prefix }))
-  is_down : (asks : ShellLine) → asks_node asks ≡ true → Did (finds_off p) → Grants Did json n p asks p (down_said json p) (Some Error) None
+  is_down : (asks : ShellLine) → asks_node asks ≡ true → Did (finds_off p) → Grants Did json n p asks p (trouble_said troubles.Down json p) (Some Error) None
   moved : (q : ℕ) → Grants Did json n p (At q) q (move_said json q) None None
   stopped : (q : ℕ) → Did (stops q) → Grants Did json n p (Stop q) p (stop_said json q) None None
-  started : (q : ℕ) → Did (starts q) → Grants Did json n p (Start q) p (start_said json q) None None
+  started : (q : ℕ) → Did (starts q true) → Grants Did json n p (Start q) p (start_said json q) None None
+  unstarted : (q : ℕ) → Did (starts q false) → Grants Did json n p (Start q) p (trouble_said troubles.NoStart json q) (Some Error) None
   written : (q : ℕ) → Did (snaps q true) → Grants Did json n p (Snapshot q) p (snapshot_said json q) None None
-  unwritten : (q : ℕ) → Did (snaps q false) → Grants Did json n p (Snapshot q) p (no_snapshot_said json q) (Some Error) None
+  unwritten : (q : ℕ) → Did (snaps q false) → Grants Did json n p (Snapshot q) p (trouble_said troubles.NoSnapshot json q) (Some Error) None
   stated : (text : List ℕ) → Stated Did json n text → Grants Did json n p Status p text None None
   helped : Grants Did json n p Help p (help_said json) None None
 

@@ -1,6 +1,7 @@
 -- What is said to a line of a shell.
 use Rattle.std.specs.Prelude.{ℕ, ◌-◌, ◌/◌, nat_le, Bool, List, [], ◌∷◌, ◌++◌, length, map, Option, None, Some, codes, decimal}
 use Rattle.std.specs.List.{flat_map}
+use Rattle.std.specs.Option.{option_map}
 use Rattle.rr_text.specs.Words.{spaced, value_words, op_words, set_text}
 use Rattle.rr_text.specs.ReportTexts.{reply_words, request_text}
 use Rattle.rr_types.specs.Commands.{listed, op_form, op_word, op_kinds}
@@ -11,6 +12,8 @@ use Rattle.rr_types.specs.declared.binding.Binding.{Binding}
 use Rattle.rr_text.specs.declared.answer.Answer.{Answer}
 use Rattle.rr_text.specs.declared.answer.Answer.TheVariants.{Acknowledged, Unacknowledged, Free, Bound, Unseen}
 use Rattle.rr_shell.specs.declared.status.NodeStatus.{NodeStatus}
+use Rattle.rr_shell.specs.declared.status.NodeTrouble.{NodeTrouble}
+use Rattle.rr_shell.specs.declared.status.NodeTrouble.TheVariants.{Down, NoSnapshot, NoStart}
 use Rattle.rr_types.specs.declared.summary.NodeSummary.{NodeSummary}
 use Rattle.rr_shell.specs.declared.shell_line.LineFault.{LineFault}
 use Rattle.rr_shell.specs.declared.shell_line.LineFault.TheVariants.{NoCommand, BadName, BadValue, BadOwner, NoNode, TooLong}
@@ -84,21 +87,18 @@ snapshot_line p = codes "snapshot" ++ (32 ∷ decimal p) ++ 10 ∷ []
 unfoldable pub node_text : ℕ → List ℕ
 node_text p = codes "node" ++ 32 ∷ decimal p
 
--- that node p hasn't
-abbrev pub no_snapshot_text : ℕ → List ℕ
-no_snapshot_text p = node_text p ++ codes " wrote no snapshot: down or busy"
+-- that node p doesn't do what is asked of it
+abbrev pub trouble_words : NodeTrouble → List ℕ
+trouble_words Down = codes " is down: start it, or ask another"
+trouble_words NoSnapshot = codes " wrote no snapshot: down or busy"
+trouble_words NoStart = codes " has failed again: status says why"
+
+abbrev pub trouble_text : NodeTrouble → ℕ → List ℕ
+trouble_text t p = node_text p ++ trouble_words t
 
 -- the line of that
-abbrev pub no_snapshot_line : ℕ → List ℕ
-no_snapshot_line p = codes "error: " ++ no_snapshot_text p ++ 10 ∷ []
-
--- that node p, which is asked, is down
-abbrev pub down_text : ℕ → List ℕ
-down_text p = node_text p ++ codes " is down: start it, or ask another"
-
--- the line of that
-abbrev pub down_line : ℕ → List ℕ
-down_line p = codes "error: " ++ down_text p ++ 10 ∷ []
+abbrev pub trouble_line : NodeTrouble → ℕ → List ℕ
+trouble_line t p = codes "error: " ++ trouble_text t p ++ 10 ∷ []
 
 -- the words that name a request
 unfoldable pub numbered_text : RequestNo → List ℕ
@@ -128,14 +128,23 @@ is_nearly_full left = nat_le left (instance_count / 10)
 abbrev pub counts_words : NodeSummary → List (List ℕ)
 counts_words k = codes "facts" ∷ decimal k.facts ∷ codes "decided" ∷ decimal k.decided ∷ codes "left" ∷ decimal (left_behind k.decided) ∷ []
 
--- that a node is down; or that it is up, and what it knows
-abbrev pub summary_words : Option NodeSummary → List (List ℕ)
-summary_words None = codes "down" ∷ []
-summary_words (Some k) = codes "up" ∷ counts_words k ++ codes "suspects" ∷ set_text k.suspects ∷ []
+-- that a node is down; or that it has failed, and why
+abbrev pub down_words : Option (List ℕ) → List ℕ
+down_words None = codes "down"
+down_words (Some why) = codes "failed: " ++ why
+
+-- that a node is up, and what it knows
+abbrev pub up_words : NodeSummary → List (List ℕ)
+up_words k = codes "up" ∷ counts_words k ++ codes "suspects" ∷ set_text k.suspects ∷ []
+
+-- how it is with a node
+abbrev pub state_words : Option NodeSummary → Option (List ℕ) → List ℕ
+state_words None failure = down_words failure
+state_words (Some k) failure = spaced (up_words k)
 
 -- the line of what a node tells of itself
 abbrev pub status_line : NodeStatus → List ℕ
-status_line s = spaced (codes "node" ∷ decimal s.node ∷ summary_words s.summary) ++ 10 ∷ []
+status_line s = spaced (codes "node" ∷ decimal s.node ∷ []) ++ 32 ∷ state_words s.summary (option_map (λ v. v.items) s.failure) ++ 10 ∷ []
 
 -- the commands
 abbrev pub help_text : List ℕ

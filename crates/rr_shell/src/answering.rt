@@ -121,12 +121,12 @@ pub trait Asked {
     fn stop(&mut self, node: NodeId) -> Result<(), Refusal>
         ensures { OnOk result (did (stops node)) };
 
-    /// Starts a node, and waits until it is up.
+    /// Starts a node, and waits until it is up, or has failed again. Answers whether it is up.
     ///
     /// # Errors
     /// Why the nodes can't be asked any more.
-    fn start(&mut self, node: NodeId) -> Result<(), Refusal>
-        ensures { OnOk result (did (starts node)) };
+    fn start(&mut self, node: NodeId) -> Result<bool, Refusal>
+        ensures { IfOk result (λ is_up. did (starts node is_up)) };
 
     /// Has a node write a snapshot of its facts. Answers whether it is written.
     ///
@@ -151,6 +151,8 @@ pub enum Hint {
     Again,
     /// So few commands can still be decided.
     Left(u64),
+    /// This node has failed.
+    Failed(NodeId),
 }
 
 /// Whether this came of a submit at this node.

@@ -44,11 +44,11 @@ pub use listing::{Listing, is_listing_at};
 pub use outcome::{Outcome, push_used_text};
 pub use prompting::{Prompted, Prompting};
 pub use said_text::{
-    say_answer, say_changed, say_down, say_fault, say_freed, say_help, say_late, say_listing,
-    say_move, say_no_snapshot, say_outcome, say_snapshot, say_start, say_status, say_stop,
-    say_sync, say_watching,
+    say_answer, say_changed, say_fault, say_freed, say_help, say_late, say_listing, say_move,
+    say_outcome, say_snapshot, say_start, say_status, say_stop, say_sync, say_trouble,
+    say_watching,
 };
 pub use shell_line::{LineFault, MAX_LINE, ShellLine};
-pub use status::{NodeStatus, is_nearly_full, left_behind};
+pub use status::{NodeStatus, NodeTrouble, is_nearly_full, left_behind};
 pub use talking::{Stop, talk};
 pub use troubles::{Trouble, answer_trouble, listing_trouble, outcome_trouble, sync_trouble};

@@ -1,13 +1,13 @@
 //! What is said to a line: an answer, a move, the help or a fault.
 
-ghost use Rattle.std.specs.Prelude.{◌≡◌, ◌∷◌, ◌++◌, OnOk, decimal};
+ghost use Rattle.std.specs.Prelude.{◌≡◌, ◌∷◌, ◌++◌, OnOk, decimal, option_map};
 ghost use Rattle.std.specs.List.{flat_map};
 ghost use Rattle.rr_text.specs.Words.{spaced};
-ghost use Rattle.rr_shell.specs.Texts.{bound_words, answer_words, answer_line, bound_line, list_lines, watching_line, changed_line, freed_line, late_text, late_line, synced_line, move_line, stop_line, start_line, snapshot_line, node_text, no_snapshot_text, no_snapshot_line, down_text, down_line, counts_words, summary_words, status_line, help_text, help_line, no_node_text, no_command_text, fault_text, fault_line};
+ghost use Rattle.rr_shell.specs.Texts.{bound_words, answer_words, answer_line, bound_line, list_lines, watching_line, changed_line, freed_line, late_text, late_line, synced_line, move_line, stop_line, start_line, snapshot_line, node_text, trouble_text, trouble_line, counts_words, up_words, down_words, status_line, help_text, help_line, no_node_text, no_command_text, fault_text, fault_line};
 
 use crate::listing::Listing;
 use crate::shell_line::{LineFault, MAX_LINE};
-use crate::status::{NodeStatus, left_behind};
+use crate::status::{NodeStatus, NodeTrouble, left_behind};
 use rr_text::Answer;
 use rr_text::text_word::{
     push_byte, push_bytes, push_number, push_number_word, push_reply, push_set, push_word,
@@ -221,43 +221,31 @@ fn push_node(out: &mut Vec<u8>, node: NodeId) -> Result<(), AllocError>
     push_number_word(out, u64::from(node.index()))
 }
 
-/// Appends that this node has written no snapshot.
-pub(crate) fn push_no_snapshot_text(out: &mut Vec<u8>, node: NodeId) -> Result<(), AllocError>
-    ensures ok { OnOk result (out.new.items ≡ out.old.items ++ no_snapshot_text node) }
+/// Appends that this node doesn't do what is asked of it.
+pub(crate) fn push_trouble_text(
+    out: &mut Vec<u8>,
+    trouble: NodeTrouble,
+    node: NodeId,
+) -> Result<(), AllocError>
+    ensures ok { OnOk result (out.new.items ≡ out.old.items ++ trouble_text trouble node) }
 {
     push_node(out, node)?;
-    push_bytes(out, b" wrote no snapshot: down or busy")
+    match trouble {
+        NodeTrouble::Down => push_bytes(out, b" is down: start it, or ask another"),
+        NodeTrouble::NoSnapshot => push_bytes(out, b" wrote no snapshot: down or busy"),
+        NodeTrouble::NoStart => push_bytes(out, b" has failed again: status says why"),
+    }
 }
 
-/// Appends the line that this node has written no snapshot.
+/// Appends the line that this node doesn't do what is asked of it.
 ///
 /// # Errors
 /// Bytes of the line may then stand at the end.
-pub fn push_no_snapshot(out: &mut Vec<u8>, node: NodeId) -> Result<(), AllocError>
-    ensures ok { OnOk result (out.new.items ≡ out.old.items ++ no_snapshot_line node) }
+pub fn push_trouble(out: &mut Vec<u8>, trouble: NodeTrouble, node: NodeId) -> Result<(), AllocError>
+    ensures ok { OnOk result (out.new.items ≡ out.old.items ++ trouble_line trouble node) }
 {
     push_bytes(out, b"error: ")?;
-    push_no_snapshot_text(out, node)?;
-    push_byte(out, b'\n')
-}
-
-/// Appends that this node, which is asked, is down.
-pub(crate) fn push_down_text(out: &mut Vec<u8>, node: NodeId) -> Result<(), AllocError>
-    ensures ok { OnOk result (out.new.items ≡ out.old.items ++ down_text node) }
-{
-    push_node(out, node)?;
-    push_bytes(out, b" is down: start it, or ask another")
-}
-
-/// Appends the line that this node, which is asked, is down.
-///
-/// # Errors
-/// Bytes of the line may then stand at the end.
-pub fn push_down(out: &mut Vec<u8>, node: NodeId) -> Result<(), AllocError>
-    ensures ok { OnOk result (out.new.items ≡ out.old.items ++ down_line node) }
-{
-    push_bytes(out, b"error: ")?;
-    push_down_text(out, node)?;
+    push_trouble_text(out, trouble, node)?;
     push_byte(out, b'\n')
 }
 
@@ -275,12 +263,25 @@ fn push_counts(out: &mut Vec<u8>, summary: &NodeSummary) -> Result<(), AllocErro
 
 // A space, that a node is up, and what it knows.
 fn push_summary(out: &mut Vec<u8>, summary: &NodeSummary) -> Result<(), AllocError>
-    ensures ok { OnOk result (out.new.items ≡ out.old.items ++ 32 ∷ spaced (summary_words (Some summary.now))) }
+    ensures ok { OnOk result (out.new.items ≡ out.old.items ++ 32 ∷ spaced (up_words summary.now)) }
 {
     push_word(out, b"up")?;
     push_counts(out, summary)?;
     push_word(out, b"suspects")?;
     push_set(out, summary.suspects)
+}
+
+// A space, and that a node is down, or has failed and why.
+fn push_no_summary(out: &mut Vec<u8>, failure: &Option<Vec<u8>>) -> Result<(), AllocError>
+    ensures ok { OnOk result (out.new.items ≡ out.old.items ++ 32 ∷ down_words (option_map (λ v. v.items) failure.now)) }
+{
+    match failure {
+        None => push_word(out, b"down"),
+        Some(failure) => {
+            push_word(out, b"failed: ")?;
+            push_bytes(out, failure.as_slice())
+        }
+    }
 }
 
 /// Appends the line of what a node tells of itself.
@@ -293,7 +294,7 @@ pub fn push_status(out: &mut Vec<u8>, status: &NodeStatus) -> Result<(), AllocEr
     push_bytes(out, b"node")?;
     push_number_word(out, u64::from(status.node.index()))?;
     match &status.summary {
-        None => push_word(out, b"down")?,
+        None => push_no_summary(out, &status.failure)?,
         Some(summary) => push_summary(out, summary)?,
     }
     push_byte(out, b'\n')

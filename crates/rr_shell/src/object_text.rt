@@ -1,19 +1,17 @@
 //! What is said to a line as JSON: an object for each line of words.
 
-ghost use Rattle.std.specs.Prelude.{◌≡◌, ◌∷◌, ◌++◌, [], OnOk, codes};
+ghost use Rattle.std.specs.Prelude.{◌≡◌, ◌∷◌, ◌++◌, [], OnOk, codes, option_map};
 ghost use Rattle.std.specs.List.{flat_map};
 ghost use Rattle.rr_text.specs.ReportTexts.{owner_words, reply_words};
-ghost use Rattle.rr_shell.specs.Texts.{down_text, no_snapshot_text, help_text, fault_text, used_text, full_text, nothing_text, late_text, left_behind};
+ghost use Rattle.rr_shell.specs.Texts.{trouble_text, help_text, fault_text, used_text, full_text, nothing_text, late_text, left_behind};
 ghost use Rattle.rr_json.specs.Json.{escaped_byte, label, text_member, number_member, opened, object_line};
-ghost use Rattle.rr_shell.specs.Objects.{reply_members, bound_members, bound_object, answer_object, synced_object, binding_object, list_objects, watching_object, changed_object, freed_object, node_object, summary_members, status_object, text_opened, text_closed, text_object};
+ghost use Rattle.rr_shell.specs.Objects.{reply_members, bound_members, bound_object, answer_object, synced_object, binding_object, list_objects, watching_object, changed_object, freed_object, node_object, down_members, state_members, status_object, text_opened, text_closed, text_object};
 
-use crate::line_text::{
-    push_down_text, push_fault_text, push_help_text, push_late_text, push_no_snapshot_text,
-};
+use crate::line_text::{push_fault_text, push_help_text, push_late_text, push_trouble_text};
 use crate::listing::Listing;
 use crate::outcome::{push_full_text, push_nothing_text, push_used_text};
 use crate::shell_line::LineFault;
-use crate::status::{NodeStatus, left_behind};
+use crate::status::{NodeStatus, NodeTrouble, left_behind};
 use rr_json::{
     push_end, push_escaped, push_label, push_number_member, push_open, push_text_member,
     push_words_member,
@@ -216,7 +214,7 @@ fn push_up(out: &mut Vec<u8>) -> Result<(), AllocError>
 
 // That a node is up, and what it knows.
 fn push_summary(out: &mut Vec<u8>, summary: &NodeSummary) -> Result<(), AllocError>
-    ensures ok { OnOk result (out.new.items ≡ out.old.items ++ summary_members (Some summary.now)) }
+    ensures ok { OnOk result (out.new.items ≡ out.old.items ++ state_members (Some summary.now) None) }
 {
     push_up(out)?;
     push_number_member(out, b"facts", summary.facts)?;
@@ -225,12 +223,16 @@ fn push_summary(out: &mut Vec<u8>, summary: &NodeSummary) -> Result<(), AllocErr
     push_number_member(out, b"suspects", u64::from(summary.suspects.bits()))
 }
 
-// That a node is down.
-fn push_no_summary(out: &mut Vec<u8>) -> Result<(), AllocError>
-    ensures ok { OnOk result (out.new.items ≡ out.old.items ++ summary_members None) }
+// That a node is down, and if it has failed, why.
+fn push_no_summary(out: &mut Vec<u8>, failure: &Option<Vec<u8>>) -> Result<(), AllocError>
+    ensures ok { OnOk result (out.new.items ≡ out.old.items ++ down_members (option_map (λ v. v.items) failure.now)) }
 {
     push_label(out, b"up")?;
-    push_bytes(out, b"false")
+    push_bytes(out, b"false")?;
+    match failure {
+        None => Ok(()),
+        Some(failure) => push_words_member(out, b"failed", failure.as_slice()),
+    }
 }
 
 /// Appends what a node tells of itself as an object.
@@ -243,7 +245,7 @@ pub fn push_status_object(out: &mut Vec<u8>, status: &NodeStatus) -> Result<(), 
     push_open(out, b"node")?;
     push_number_member(out, b"node", u64::from(status.node.index()))?;
     match &status.summary {
-        None => push_no_summary(out)?,
+        None => push_no_summary(out, &status.failure)?,
         Some(summary) => push_summary(out, summary)?,
     }
     push_end(out)
@@ -265,27 +267,19 @@ fn push_text_close(out: &mut Vec<u8>) -> Result<(), AllocError>
     push_bytes(out, b"\"}\n")
 }
 
-/// Appends that this node, which is asked, is down, as an object.
+/// Appends that this node doesn't do what is asked of it, as an object.
 ///
 /// # Errors
 /// Bytes of the line may then stand at the end.
-pub fn push_down_object(out: &mut Vec<u8>, node: NodeId) -> Result<(), AllocError>
-    ensures ok { OnOk result (out.new.items ≡ out.old.items ++ text_object (codes "error") (down_text node)) }
+pub fn push_trouble_object(
+    out: &mut Vec<u8>,
+    trouble: NodeTrouble,
+    node: NodeId,
+) -> Result<(), AllocError>
+    ensures ok { OnOk result (out.new.items ≡ out.old.items ++ text_object (codes "error") (trouble_text trouble node)) }
 {
     push_text_open(out, b"error")?;
-    push_down_text(out, node)?;
-    push_text_close(out)
-}
-
-/// Appends that this node has written no snapshot, as an object.
-///
-/// # Errors
-/// Bytes of the line may then stand at the end.
-pub fn push_no_snapshot_object(out: &mut Vec<u8>, node: NodeId) -> Result<(), AllocError>
-    ensures ok { OnOk result (out.new.items ≡ out.old.items ++ text_object (codes "error") (no_snapshot_text node)) }
-{
-    push_text_open(out, b"error")?;
-    push_no_snapshot_text(out, node)?;
+    push_trouble_text(out, trouble, node)?;
     push_text_close(out)
 }
 

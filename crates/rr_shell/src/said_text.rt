@@ -1,23 +1,23 @@
 //! What is said to a line, in words or with JSON.
 
 ghost use Rattle.std.specs.Prelude.{◌≡◌, ◌++◌, OnOk};
-ghost use Rattle.rr_shell.specs.Forms.{answer_said, full_said, used_said, nothing_said, outcome_said, synced_said, sync_said, list_said, watching_said, changed_said, freed_said, late_said, move_said, stop_said, start_said, snapshot_said, no_snapshot_said, down_said, status_said, help_said, fault_said};
+ghost use Rattle.rr_shell.specs.Forms.{answer_said, full_said, used_said, nothing_said, outcome_said, synced_said, sync_said, list_said, watching_said, changed_said, freed_said, late_said, move_said, stop_said, start_said, snapshot_said, trouble_said, status_said, help_said, fault_said};
 
 use crate::line_text::{
-    push_answer, push_changed, push_down, push_fault, push_freed, push_help, push_late,
-    push_listing, push_move, push_no_snapshot, push_snapshot, push_start, push_status, push_stop,
-    push_synced, push_watching,
+    push_answer, push_changed, push_fault, push_freed, push_help, push_late, push_listing,
+    push_move, push_snapshot, push_start, push_status, push_stop, push_synced, push_trouble,
+    push_watching,
 };
 use crate::listing::Listing;
 use crate::object_text::{
-    push_answer_object, push_changed_object, push_down_object, push_fault_object,
-    push_freed_object, push_full_object, push_help_object, push_late_object, push_listing_objects,
-    push_no_snapshot_object, push_node_object, push_nothing_object, push_status_object,
-    push_synced_object, push_used_object, push_watching_object,
+    push_answer_object, push_changed_object, push_fault_object, push_freed_object,
+    push_full_object, push_help_object, push_late_object, push_listing_objects, push_node_object,
+    push_nothing_object, push_status_object, push_synced_object, push_trouble_object,
+    push_used_object, push_watching_object,
 };
 use crate::outcome::{Outcome, push_full_text, push_nothing_text, push_used_text};
 use crate::shell_line::LineFault;
-use crate::status::NodeStatus;
+use crate::status::{NodeStatus, NodeTrouble};
 use rr_text::Answer;
 use rr_text::text_word::{push_byte, push_bytes};
 use rr_types::{Binding, Command, Name, NodeId, Nodes};
@@ -253,31 +253,22 @@ pub fn say_snapshot(out: &mut Vec<u8>, json: bool, node: NodeId) -> Result<(), A
     }
 }
 
-/// Appends that this node has written no snapshot.
+/// Appends that this node doesn't do what is asked of it.
 ///
 /// # Errors
 /// Bytes of the line may then stand at the end.
-pub fn say_no_snapshot(out: &mut Vec<u8>, json: bool, node: NodeId) -> Result<(), AllocError>
-    ensures ok { OnOk result (out.new.items ≡ out.old.items ++ no_snapshot_said json node) }
+pub fn say_trouble(
+    out: &mut Vec<u8>,
+    json: bool,
+    trouble: NodeTrouble,
+    node: NodeId,
+) -> Result<(), AllocError>
+    ensures ok { OnOk result (out.new.items ≡ out.old.items ++ trouble_said trouble json node) }
 {
     if json {
-        push_no_snapshot_object(out, node)
+        push_trouble_object(out, trouble, node)
     } else {
-        push_no_snapshot(out, node)
-    }
-}
-
-/// Appends that this node, which is asked, is down.
-///
-/// # Errors
-/// Bytes of the line may then stand at the end.
-pub fn say_down(out: &mut Vec<u8>, json: bool, node: NodeId) -> Result<(), AllocError>
-    ensures ok { OnOk result (out.new.items ≡ out.old.items ++ down_said json node) }
-{
-    if json {
-        push_down_object(out, node)
-    } else {
-        push_down(out, node)
+        push_trouble(out, trouble, node)
     }
 }
 

@@ -4,16 +4,17 @@ ghost use Rattle.std.specs.Prelude.{◌≡◌, ◌<◌, true, false, Some, None,
 ghost use Rattle.rr_shell.specs.Deeds.{finds_on, finds_off};
 ghost use Rattle.rr_shell.specs.Talks.{Stated, asks_node, IsSaidToSync, IsSaidToRequest};
 ghost use Rattle.rr_shell.specs.Troubles.{answer_trouble, outcome_trouble, listing_trouble};
-ghost use Rattle.rr_shell.specs.Forms.{answer_said, outcome_said, list_said, move_said, stop_said, start_said, snapshot_said, no_snapshot_said, down_said, help_said, fault_said};
+ghost use Rattle.rr_shell.specs.Forms.{answer_said, outcome_said, list_said, move_said, stop_said, start_said, snapshot_said, trouble_said, help_said, fault_said};
 
 use crate::answering::Asked;
 use crate::listing::Listing;
 use crate::outcome::Outcome;
 use crate::said_text::{
-    say_answer, say_down, say_fault, say_help, say_listing, say_move, say_no_snapshot, say_outcome,
-    say_snapshot, say_start, say_status, say_stop, say_sync,
+    say_answer, say_fault, say_help, say_listing, say_move, say_outcome, say_snapshot, say_start,
+    say_status, say_stop, say_sync, say_trouble,
 };
 use crate::shell_line::{LineFault, ShellLine};
+use crate::status::NodeTrouble;
 use crate::troubles::{Trouble, answer_trouble, listing_trouble, outcome_trouble, sync_trouble};
 use crate::watching::Watched;
 use rr_text::Answer;
@@ -145,25 +146,18 @@ fn written(alloc: Global, json: bool, node: NodeId, next: NodeId) -> Result<Said
     })
 }
 
-fn unwritten(alloc: Global, json: bool, node: NodeId, next: NodeId) -> Result<Said, Refusal>
-    ensures { IfOk result (λ s. (s.node ≡ node) × (s.text.items ≡ no_snapshot_said json next) × (s.trouble ≡ Some Trouble.Error) × (s.watched ≡ None)) }
+// A node doesn't do what is asked of it.
+fn troubled(
+    alloc: Global,
+    json: bool,
+    node: NodeId,
+    trouble: NodeTrouble,
+    next: NodeId,
+) -> Result<Said, Refusal>
+    ensures { IfOk result (λ s. (s.node ≡ node) × (s.text.items ≡ trouble_said trouble json next) × (s.trouble ≡ Some Trouble.Error) × (s.watched ≡ None)) }
 {
     let mut text = Vec::new(alloc);
-    say_no_snapshot(&mut text, json, next)?;
-    let trouble = Some(Trouble::Error);
-    Ok(Said {
-        node,
-        text,
-        trouble,
-        watched: None,
-    })
-}
-
-fn down(alloc: Global, json: bool, node: NodeId) -> Result<Said, Refusal>
-    ensures { IfOk result (λ s. (s.node ≡ node) × (s.text.items ≡ down_said json node) × (s.trouble ≡ Some Trouble.Error) × (s.watched ≡ None)) }
-{
-    let mut text = Vec::new(alloc);
-    say_down(&mut text, json, node)?;
+    say_trouble(&mut text, json, trouble, next)?;
     let trouble = Some(Trouble::Error);
     Ok(Said {
         node,
@@ -272,7 +266,7 @@ pub fn said_to_request<A: Asked>(
 {
     made_of!(Answer, Name, Op, Reply, Value);
     if asks_in_vain(asked, node, line) {
-        return Ok(Some(down(alloc, json, node)?));
+        return Ok(Some(troubled(alloc, json, node, NodeTrouble::Down, node)?));
     }
     match line {
         ShellLine::Submit(op) => Ok(Some(submitted(alloc, json, node, &asked.submit(node, op)?)?)),
@@ -297,14 +291,19 @@ pub fn said_to_request<A: Asked>(
             Ok(Some(stopped(alloc, json, node, *next)?))
         }
         ShellLine::Start(next) => {
-            asked.start(*next)?;
-            Ok(Some(started(alloc, json, node, *next)?))
+            if asked.start(*next)? {
+                Ok(Some(started(alloc, json, node, *next)?))
+            } else {
+                let trouble = NodeTrouble::NoStart;
+                Ok(Some(troubled(alloc, json, node, trouble, *next)?))
+            }
         }
         ShellLine::Snapshot(next) => {
             if asked.snapshot(*next)? {
                 Ok(Some(written(alloc, json, node, *next)?))
             } else {
-                Ok(Some(unwritten(alloc, json, node, *next)?))
+                let trouble = NodeTrouble::NoSnapshot;
+                Ok(Some(troubled(alloc, json, node, trouble, *next)?))
             }
         }
         ShellLine::Status => Ok(Some(stated(alloc, json, nodes, node, asked)?)),

@@ -96,6 +96,14 @@ fn show_hint<I: Prompting>(alloc: Global, input: &mut I, hint: Hint)
                 input.show(text.as_bytes());
             }
         }
+        Hint::Failed(node) => {
+            let node = node.index();
+            if let Ok(text) = format!(in alloc;
+                "node {node} has failed, and the others go on: status says why, and start {node} tries again\n"
+            ) {
+                input.show(text.as_bytes());
+            }
+        }
     }
 }
 

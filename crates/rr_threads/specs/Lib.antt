@@ -10,5 +10,6 @@ pub mod Reusing
 pub mod Snapshotting
 pub mod Summaries
 pub mod Syncing
+pub mod Trips
 pub mod Ways
 pub mod Mails

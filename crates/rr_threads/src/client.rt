@@ -456,7 +456,9 @@ pub fn serve<'d, 'x, W: WindowName, T: Turnstile, R: Wait, C: Client + Drop>(
     };
     match told {
         Err(Refusal::Down) if desk.is_ending(shared) => return Some(client),
-        Err(refusal) => shared.running.fail(rt, desk.node, refusal),
+        Err(refusal) => {
+            shared.running.fail(rt, desk.node, refusal);
+        }
         Ok(()) => {}
     }
     shared.running.leave(rt, client);

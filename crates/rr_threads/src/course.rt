@@ -4,19 +4,19 @@ ghost use Rattle.std.specs.Prelude.{◌≡◌};
 ghost use Rattle.rr_turn.specs.Asked.{Call};
 ghost use Rattle.rr_threads.specs.Rests.{rest_gives};
 
+use crate::failing::Breaker;
 use crate::rest::Rest;
-use crate::running::Running;
 use rr_turn::Course;
 use rr_types::{NodeId, Refusal};
 use std::sync::Wait;
 use std::thread::Parker;
 
-/// The rest of a thread of a node beside its loop, and the run. Contracts see how long it rests. That it does rest, and that the run ends
-/// where it fails, no contract knows: each of these calls is one line, to be read.
+/// The rest of a thread of a node beside its loop, and the run. Contracts see how long it rests. That it does rest, and that the breaker
+/// is told where it fails, no contract knows: each of these calls is one line, to be read.
 #[derive(Drop)]
 pub struct Aside<'x, R> {
     rt: &'x R,
-    running: &'x Running,
+    breaker: Breaker<'x>,
     node: NodeId,
     bell: &'x Parker,
     rest: Rest,
@@ -24,14 +24,14 @@ pub struct Aside<'x, R> {
 
 impl<'x, R> Aside<'x, R> {
     /// The thread has found something to do, as its start is.
-    pub fn new(rt: &'x R, running: &'x Running, node: NodeId, bell: &'x Parker) -> Aside<'x, R>
+    pub fn new(rt: &'x R, breaker: Breaker<'x>, node: NodeId, bell: &'x Parker) -> Aside<'x, R>
         ensures node { result.node ≡ node }
         ensures bell { result.bell.now ≡ bell.now }
         ensures rest { result.rest ≡ record { looks = 0; micros = 50_000; first = 50_000; longest = 50_000 } }
     {
         Aside {
             rt,
-            running,
+            breaker,
             node,
             bell,
             rest: Rest::rung(),
@@ -51,6 +51,6 @@ impl<'x, R: Wait> Course for Aside<'x, R> {
     }
 
     fn fail(&mut self, refusal: Refusal) {
-        self.running.fail(self.rt, self.node, refusal);
+        self.breaker.fail(self.rt, self.node, refusal);
     }
 }

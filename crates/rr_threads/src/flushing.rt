@@ -89,7 +89,7 @@ pub fn flush_all<W: WindowName, D: Disk + Drop, T: Turnstile, R: Wait>(
         groups,
         backs,
     };
-    let mut aside = Aside::new(rt, &shared.running, node, desk.flusher.parker());
+    let mut aside = Aside::new(rt, shared.breaker(), node, desk.flusher.parker());
     for _ in rt.forever() {
         if flush_group(alloc, turnstile, node, &mut journal, &mut belt) {
             aside.go_on();

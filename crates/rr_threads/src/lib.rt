@@ -58,6 +58,7 @@ mod agreeing;
 mod client;
 mod course;
 mod desk;
+mod failing;
 mod fate;
 mod flushing;
 mod lives;

@@ -1,9 +1,9 @@
 //! The lives of a node: from each start to the stop behind it.
 //!
 //! A thread's result is known by no contract, nor is what a switch says. So that a life follows each start, with the disk and the clients
-//! of the one before, and that a run is over where one fails is read: `live`, `leave_all`, `run_lives`.
+//! of the one before, and that a run is over where one can't begin is read: `live`, `leave_all`, `run_lives`.
 
-ghost use Rattle.std.specs.Prelude.{◌≡◌, ◌<◌, Some, IfOk, IfSome};
+ghost use Rattle.std.specs.Prelude.{◌≡◌, ◌<◌, Some, IfOk, IfErr};
 
 use crate::client::Client;
 use crate::node_run::{Part, Remains, run_part};
@@ -17,7 +17,15 @@ use std::sync::Wait;
 use std::thread::Threads;
 use std::time::Clock;
 
-/// Opens a node of this disk for this start, with the turnstile before each device call. The errors are those of `recover_through`.
+/// A node that isn't opened, as its disk is refused.
+#[derive(Drop)]
+pub struct Unopened<D> {
+    pub refusal: Refusal,
+    pub disk: D,
+    pub mail: Mail,
+}
+
+/// Opens a node of this disk for this start, with the turnstile before each device call. The refusals are those of `recover_through`.
 pub fn open_part<D: Disk + Drop, T: Turnstile>(
     turnstile: &T,
     alloc: Global,
@@ -26,11 +34,12 @@ pub fn open_part<D: Disk + Drop, T: Turnstile>(
     node: NodeId,
     disk: D,
     mail: Mail,
-) -> Result<Part<D>, Refusal>
+) -> Result<Part<D>, Unopened<D>>
     requires exists { node < nodes }
     requires alike { (one other : D) → D.tells one → D.tells other }
     ensures whose { IfOk result (λ part. (part.start ≡ start) × (part.node ≡ node) × (part.journal.node ≡ node) × (part.journal.nodes ≡ nodes)) }
     ensures mail { IfOk result (λ part. part.mail ≡ mail) }
+    ensures kept { IfErr result (λ unopened. unopened.mail ≡ mail) }
 {
     match recover_through(turnstile, alloc, nodes, node, disk) {
         Ok((core, journal)) => Ok(Part {
@@ -40,11 +49,25 @@ pub fn open_part<D: Disk + Drop, T: Turnstile>(
             journal,
             mail,
         }),
-        Err((refusal, _)) => Err(refusal),
+        Err((refusal, disk)) => Err(Unopened {
+            refusal,
+            disk,
+            mail,
+        }),
     }
 }
 
-/// Opens a node again of what is left of it, for this start. None: the run is over. The errors are those of `recover_through`.
+/// What comes of the start of a node that is down.
+#[derive(Drop)]
+enum Started<D: Disk> {
+    Up(Part<D>),
+    /// Its disk is refused.
+    Unopened(Unopened<D>),
+    /// The run is over: the node's disk or its mail is lost.
+    Over,
+}
+
+/// Opens a node again of what is left of it, for this start.
 fn open_again<D: Disk + Drop, T: Turnstile>(
     alloc: Global,
     shared: &Shared<'_, T>,
@@ -52,22 +75,48 @@ fn open_again<D: Disk + Drop, T: Turnstile>(
     node: NodeId,
     disk: Option<D>,
     mail: Option<Mail>,
-) -> Result<Option<Part<D>>, Refusal>
+) -> Started<D>
     requires alike { (one other : D) → D.tells one → D.tells other }
-    ensures whose { IfOk result (λ part. IfSome part (λ part. (part.start ≡ start) × (part.node ≡ node))) }
-    ensures mail { IfOk result (λ part. IfSome part (λ part. mail ≡ Some part.mail)) }
+    ensures up { (part : Part D) → result ≡ Started.Up part → (part.start ≡ start) × (part.node ≡ node) × (mail ≡ Some part.mail) }
+    ensures kept { (unopened : Unopened D) → result ≡ Started.Unopened unopened → mail ≡ Some unopened.mail }
 {
     let (Some(node), Some(disk), Some(mail)) = (NodeId::new(shared.nodes, node.index()), disk, mail)
     else {
-        return Ok(None);
+        return Started::Over;
     };
     let nodes = shared.nodes;
-    let part = open_part(shared.turnstile, alloc, start, nodes, node, disk, mail)?;
-    Ok(Some(part))
+    match open_part(shared.turnstile, alloc, start, nodes, node, disk, mail) {
+        Ok(part) => Started::Up(part),
+        Err(unopened) => Started::Unopened(unopened),
+    }
 }
 
-/// Runs a node through its lives: until the run is over, or it is down and isn't started any more. Then its clients are done. The
-/// errors are those of `recover_through`, `OutOfMemory` and `SeatsTaken`.
+/// A node whose disk is refused fails. It stays down with what it has, so that it can be started again.
+fn stay_unopened<D: Drop, T, R: Wait, C: Drop>(
+    rt: &R,
+    shared: &Shared<'_, T>,
+    node: NodeId,
+    unopened: Unopened<D>,
+    clients: Vec<C>,
+) -> Remains<D, C>
+    ensures held { (result.disk ≡ Some unopened.disk) × (result.mail ≡ Some unopened.mail) }
+    ensures clients { result.clients ≡ clients }
+{
+    let Unopened {
+        refusal,
+        disk,
+        mail,
+    } = unopened;
+    shared.fail(rt, node, refusal);
+    Remains {
+        disk: Some(disk),
+        mail: Some(mail),
+        clients,
+    }
+}
+
+/// Runs a node through its lives: until the run is over, or it is down and isn't started any more. Then its clients are done. It is
+/// `OutOfMemory` or `SeatsTaken`, of a life that can't begin.
 fn live<
     D: Disk + Drop + Send,
     T: Turnstile + Sync,
@@ -83,24 +132,25 @@ fn live<
     requires alike { (one other : D) → D.tells one → D.tells other }
 {
     let node = part.node;
-    let mut part = part;
-    let mut clients = clients;
+    let mut remains = run_part(rt, alloc, shared, part, clients)?;
     for _ in rt.forever() {
         let Remains {
             disk,
             mut mail,
-            clients: left,
-        } = run_part(rt, alloc, shared, part, clients)?;
+            clients,
+        } = remains;
         let gone = shared.note_down(node);
         let Some(start) = shared.next_life(rt, node, gone, &mut mail) else {
-            leave_all(rt, shared, left);
+            leave_all(rt, shared, clients);
             return Ok(());
         };
-        match open_again(alloc, shared, start, node, disk, mail)? {
-            Some(next) => part = next,
-            None => return Ok(()),
+        match open_again(alloc, shared, start, node, disk, mail) {
+            Started::Up(next) => remains = run_part(rt, alloc, shared, next, clients)?,
+            Started::Unopened(unopened) => {
+                remains = stay_unopened(rt, shared, node, unopened, clients);
+            }
+            Started::Over => return Ok(()),
         }
-        clients = left;
     }
     Ok(())
 }
@@ -112,7 +162,7 @@ fn leave_all<T, R: Wait, C: Drop>(rt: &R, shared: &Shared<'_, T>, clients: Vec<C
     }
 }
 
-/// Runs one of the nodes of a run for these clients through its lives. Where it fails, the run is over.
+/// Runs one of the nodes of a run for these clients through its lives. Where one of these can't begin, the run is over.
 pub fn run_lives<
     D: Disk + Drop + Send,
     T: Turnstile + Sync,

@@ -54,7 +54,7 @@ fn begin<W: WindowName, T: Turnstile, R: Wait + Clock>(
     })
 }
 
-/// Runs the turns of a node, until it goes down. A refusal ends the run.
+/// Runs the turns of a node, until it goes down. By a refusal it fails.
 fn run_turns<W: WindowName, T: Turnstile, R: Wait + Clock>(
     rt: &R,
     shared: &Shared<'_, T>,
@@ -91,7 +91,7 @@ pub fn run_node<W: WindowName, T: Turnstile, R: Wait + Clock>(
     );
     let mut lane = Lane { wires, chase };
     if let Err(refusal) = run_turns(rt, shared, desk, &mut lane) {
-        shared.running.fail(rt, desk.node, refusal);
+        shared.fail(rt, desk.node, refusal);
     }
     desk.ring_all();
     let Lane { wires, chase: _ } = lane;

@@ -435,7 +435,9 @@ fn run_crew<
     let desk: Desk<W> = Desk::new(node, start, Locked::new(core), counters);
     match first {
         Ok(published) => shared.note_up(node, published),
-        Err(refusal) => shared.running.fail(rt, node, refusal),
+        Err(refusal) => {
+            shared.fail(rt, node, refusal);
+        }
     }
     let remains = run_threads(
         rt,

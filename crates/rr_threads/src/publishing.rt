@@ -73,7 +73,7 @@ pub fn publish_all<W: WindowName, T, R: Wait>(
         desk,
     };
     let mut acknowledged = VecDeque::new(alloc);
-    let mut aside = Aside::new(rt, &shared.running, desk.node, desk.publisher.parker());
+    let mut aside = Aside::new(rt, shared.breaker(), desk.node, desk.publisher.parker());
     for _ in rt.forever() {
         if desk.is_ending(shared) {
             break;

@@ -69,8 +69,10 @@ fn open_parts<D: Disk + Drop, T: Turnstile, C: Drop>(
         let Some(own) = clients.next() else {
             unreachable!()
         };
-        let part = open_part(turnstile, alloc, Start::first(), nodes, node, disk, mail)?;
-        parts.push((part, own))?;
+        match open_part(turnstile, alloc, Start::first(), nodes, node, disk, mail) {
+            Ok(part) => parts.push((part, own))?,
+            Err(unopened) => return Err(unopened.refusal),
+        }
         index += 1;
     }
     Ok(parts)
@@ -248,10 +250,11 @@ pub fn run_clients<
 
 /// Runs nodes as `run_clients` does, while a host stops and starts them by their switches. A node that is started opens its
 /// disk as at the beginning. The run lasts until each client is done, also those of nodes that are down. The switches say how often
-/// nodes tick.
+/// nodes tick. A node that fails goes down alone, as one that is stopped, and so does one whose disk is refused at a start: the switches
+/// say why.
 ///
 /// # Errors
-/// As of `run_clients`, also where a node is started again.
+/// As of `run_clients` before the nodes are up. Afterwards `OutOfMemory`, where a thread can't be made, and what a client's `run` gives.
 pub fn run_switched<
     D: Disk + Drop + Send,
     T: Turnstile + Sync,

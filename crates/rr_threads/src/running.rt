@@ -20,6 +20,12 @@ pub struct Running {
     order: Mutex<()>,
 }
 
+/// That a run was ended by a failure. Only `Running::fail` gives this.
+#[derive(Debug, Drop)]
+pub struct Broken {
+    ended: (),
+}
+
 impl Running {
     /// A run with `clients` clients. It is `OutOfMemory`.
     pub fn new(alloc: Global, clients: usize) -> Result<Running, Refusal> {
@@ -69,10 +75,11 @@ impl Running {
         }
     }
 
-    /// A node has failed.
-    pub fn fail<R: Wait>(&self, rt: &R, node: NodeId, refusal: Refusal) {
+    /// A node has failed, which ends the run.
+    pub fn fail<R: Wait>(&self, rt: &R, node: NodeId, refusal: Refusal) -> Broken {
         self.ending.lock(rt).fail(Failure { node, refusal });
         self.end();
+        Broken { ended: () }
     }
 
     fn end(&self) {

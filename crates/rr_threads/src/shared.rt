@@ -6,13 +6,14 @@ ghost use Rattle.std.specs.Prelude.{◌≡◌, ◌||◌, ◌==◌, false, not};
 ghost use Rattle.std.specs.Option.{option_map_or};
 ghost use Rattle.rr_turn.specs.Asked.{Call};
 
+use crate::failing::{Breaker, Outage};
 use crate::publishing::Published;
 use crate::recorder::Recorder;
 use crate::running::Running;
 use crate::switches::{DOWN, Switches};
 use crate::wires::Mail;
 use rr_turn::{DownEnds, Next, stay_down};
-use rr_types::{NodeId, Nodes};
+use rr_types::{NodeId, Nodes, Refusal};
 use std::sync::Wait;
 use std::time::Duration;
 
@@ -56,6 +57,21 @@ impl<'x, T> Shared<'x, T> {
             None => None,
         };
         ends(start.moves, stands, self.running.is_over())
+    }
+
+    /// By which a node or the run ends where the node fails.
+    pub fn breaker(&self) -> Breaker<'_>
+        ensures { result.switches ≡ self.now.switches }
+    {
+        Breaker {
+            running: &self.running,
+            switches: self.switches,
+        }
+    }
+
+    /// A node fails.
+    pub fn fail<R: Wait>(&self, rt: &R, node: NodeId, refusal: Refusal) -> Outage {
+        self.breaker().fail(rt, node, refusal)
     }
 
     /// A node has come up: what its disk had is published.

@@ -1,17 +1,18 @@
 //! Switches by which the nodes of a run are stopped and started again.
 //!
-//! No contract knows what an atomic holds. What a count of moves means has its clauses (`is_even`, `if_on`). That a switch is moved, noted and
-//! looked at is read: a line or two each.
+//! No contract knows what an atomic or a lock holds. What a count of moves means has its clauses (`is_even`, `if_on`, `failure_at`). That a switch
+//! is moved, noted and looked at is read: a line or two each.
 
 ghost use Rattle.std.specs.Prelude.{◌≡◌, ◌%◌, ◌==◌, if◌then◌else◌, None, Some, slice_get, vec_len, IfOk};
 ghost use Rattle.std.specs.Option.{option_copied};
+ghost use Rattle.rr_threads.specs.Trips.{failure_at};
 
 use crate::rest::LONG;
 use crate::run::usual_tick;
 use rr_types::{NodeId, Nodes, Refusal};
 use std::alloc::Global;
-use std::sync::Wait;
 use std::sync::atomic::{AtomicBool, AtomicU64, Ordering};
+use std::sync::{Mutex, Wait};
 use std::thread::Parker;
 use std::time::Duration;
 
@@ -19,11 +20,35 @@ use std::time::Duration;
 /// and looks at its switch.
 pub const DOWN: u64 = 5;
 
-/// How often the switch of a node was moved, and whether the node is up. The switch is on where that number is even.
+/// A failure that moved the switch of a node, and how often it was moved by then.
+#[derive(Clone, Copy, Debug)]
+struct Trip {
+    moves: u64,
+    refusal: Refusal,
+}
+
+/// How often the switch of a node was moved, whether the node is up, and the last failure that moved the switch. The switch is on where
+/// that number is even.
 #[derive(Drop)]
 struct Switch {
     moves: AtomicU64,
     is_up: AtomicBool,
+    trip: Mutex<Option<Trip>>,
+}
+
+/// That a node's switch was turned off as the node failed. Only `Switches::fail` gives this.
+#[derive(Debug, Drop)]
+pub struct Tripped {
+    node: NodeId,
+}
+
+impl Tripped {
+    /// Which node failed.
+    pub fn node(&self) -> NodeId
+        ensures { result ≡ self.now.node }
+    {
+        self.node
+    }
 }
 
 impl Switch {
@@ -32,7 +57,20 @@ impl Switch {
         Switch {
             moves: AtomicU64::new(0),
             is_up: AtomicBool::new(false),
+            trip: Mutex::new(None),
         }
+    }
+
+    /// Turns it off by a failure, which is noted first, so that whoever sees the switch off sees why.
+    fn trip<R: Wait>(&self, rt: &R, refusal: Refusal) {
+        let next = self.moves.load(Ordering::SeqCst).saturating_add(1);
+        if !is_even(next) {
+            *self.trip.lock(rt) = Some(Trip {
+                moves: next,
+                refusal,
+            });
+        }
+        self.turn(false);
     }
 
     /// Moves it, unless it stands so. Of two that move it at once one does.
@@ -54,6 +92,16 @@ fn is_even(moves: u64) -> bool
     moves % 2 == 0
 }
 
+// The failure by which a switch stands where it does, which was moved so often.
+fn failure_at(trip: &Option<Trip>, moves: u64) -> Option<Refusal>
+    ensures { result ≡ failure_at trip.now moves }
+{
+    match trip {
+        Some(trip) if trip.moves == moves => Some(trip.refusal),
+        _ => None,
+    }
+}
+
 // How often a switch was moved, where it is on.
 fn if_on(moves: u64) -> Option<u64>
     ensures { result ≡ (if moves % 2 == 0 then Some moves else None) }
@@ -64,7 +112,7 @@ fn if_on(moves: u64) -> Option<u64>
 /// Switches by which a host stops nodes of a run and starts them again, while the others go on. They are on at first.
 ///
 /// A stopped node goes down as by a crash of its threads: of what it knew there is left what its disk has. It
-/// recovers from that disk when it is started.
+/// recovers from that disk when it is started. A node that fails goes down in the same way, alone, and why is told by `failure`.
 #[derive(Drop)]
 pub struct Switches {
     switches: Vec<Switch>,
@@ -133,6 +181,13 @@ impl Switches {
         self.moves_if_on(node).is_some()
     }
 
+    /// The refusal by which the node went down, if it went down by one and hasn't been started since.
+    pub fn failure<R: Wait>(&self, rt: &R, node: NodeId) -> Option<Refusal> {
+        let switch = self.switch(node)?;
+        let trip = *switch.trip.lock(rt);
+        failure_at(&trip, switch.moves.load(Ordering::SeqCst))
+    }
+
     /// Whether the node is up: what its disk had is published, and its threads haven't ended.
     pub fn is_up(&self, node: NodeId) -> bool {
         match self.switch(node) {
@@ -141,10 +196,11 @@ impl Switches {
         }
     }
 
-    /// Whether all nodes are up.
-    pub fn are_all_up(&self) -> bool {
+    /// Whether all nodes have begun: each is up, or has gone down again.
+    pub fn have_all_begun(&self) -> bool {
         for switch in &self.switches {
-            if !switch.is_up.load(Ordering::SeqCst) {
+            let moves = switch.moves.load(Ordering::SeqCst);
+            if !switch.is_up.load(Ordering::SeqCst) && is_even(moves) {
                 return false;
             }
         }
@@ -160,6 +216,16 @@ impl Switches {
     pub fn close(&self) {
         self.is_closed.store(true, Ordering::SeqCst);
         self.host.unpark();
+    }
+
+    /// The node fails: it goes down as one that is stopped, and why is noted.
+    pub(crate) fn fail<R: Wait>(&self, rt: &R, node: NodeId, refusal: Refusal) -> Tripped
+        ensures { result.node ≡ node }
+    {
+        if let Some(switch) = self.switch(node) {
+            switch.trip(rt, refusal);
+        }
+        Tripped { node }
     }
 
     /// How often the node's switch was moved.

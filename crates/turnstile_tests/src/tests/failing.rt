@@ -1,9 +1,9 @@
 //! Runs in which the disk of a node fails while the others go on.
 
-use super::asking::{OPENING_CALLS, Shared, askers, claims, numbered};
+use super::asking::{OPENING_CALLS, Shared, askers, claims, node_of, numbered};
 use rr_disk::{AreaFile, FileDisk};
 use rr_text::{Answers, Script};
-use rr_threads::{run_clients, run_script};
+use rr_threads::{Switches, run_clients, run_script, run_switched};
 use rr_turn::{Open, Place, Turnstile};
 use rr_types::{NodeId, Nodes, Refusal};
 use std::alloc::Global;
@@ -168,4 +168,28 @@ fn others_go_on<R: Threads + Wait + Clock + Abort + AllocGlobal + Sync>(
 #[test]
 fn nodes_acknowledge_beside_one_whose_disk_fails(rt: HostRuntime) {
     assert!(rt; others_go_on(&rt).expect(&rt, "memory"));
+}
+
+/// Three nodes with switches, the last of which can't write after its opening. It goes down alone, and the others acknowledge their claims.
+fn one_fails_alone<R: Threads + Wait + Clock + Abort + AllocGlobal + Sync>(
+    rt: &R,
+) -> Result<bool, Refusal> {
+    let nodes = numbered(rt, 3);
+    let shared = Shared::new(claims(rt, rt.alloc(), nodes)?);
+    let clients = askers(rt.alloc(), nodes, &shared)?;
+    let mut disks = Vec::new(rt.alloc());
+    for left in [1_000_000, 1_000_000, OPENING] {
+        disks.push(worn_disk(rt, rt.alloc(), left))?;
+    }
+    let switches = Switches::new(rt.alloc(), nodes)?;
+    switches.close();
+    run_switched(rt, rt.alloc(), nodes, disks, clients, &Open, &switches)?;
+    let first = switches.failure(rt, node_of(rt, nodes, 0));
+    let last = switches.failure(rt, node_of(rt, nodes, 2));
+    Ok(first.is_none() && matches!(last, Some(Refusal::Device)) && shared.came_to(2))
+}
+
+#[test]
+fn a_node_with_a_switch_fails_alone(rt: HostRuntime) {
+    assert!(rt; one_fails_alone(&rt).expect(&rt, "a run that goes on"));
 }

@@ -11,7 +11,7 @@ returns-in-empty-clause-ends g c =
     let none : length words.lines.items < 1 = subst (λ (l : List (Bor Text)). length l < 1) c.as_slice-lines.ensures.value c.in-empty.len_below in
     numbered c.in-Some.nodes c.in-Some-client_of.client c.in-Some.ensures.some c.in-Some-client_of.ensures.some
     (by_input words.json words.strict c.in-Some.nodes words.lines.items (g.I.Source.reading c.args.input.now) (g.I.Source.reading c.shell_over.new.input) c.shell_over.result (g.O.Sink.printing c.args.out.now) (g.O.Sink.printing c.shell_over.new.out) none
-    (subst (λ (r : Reading). EndsOnShell words.json words.strict c.in-Some.nodes r (g.I.Source.reading c.shell_over.new.input) c.shell_over.result (g.O.Sink.printing c.args.out.now) (g.O.Sink.printing c.shell_over.new.out)) c.show_defaults.ensures c.shell_over.ensures.ends))
+    (subst (λ (r : Reading). EndsOnShell words.json words.strict c.in-Some.nodes r (g.I.Source.reading c.shell_over.new.input) c.shell_over.result (g.O.Sink.printing c.args.out.now) (g.O.Sink.printing c.shell_over.new.out)) c.show_begin.ensures c.shell_over.ensures.ends))
 
 pub returns-in-len1-up-clause-ends : goal.returns-in-len1-up-clause-ends
 returns-in-len1-up-clause-ends g c =

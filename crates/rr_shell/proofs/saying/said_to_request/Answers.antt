@@ -1,8 +1,8 @@
-use Rattle.rr_shell.specs.Talks.{submitted, again, looked, synced, listed, watches, is_down, moved, stopped, started, written, unwritten, stated, helped}
+use Rattle.rr_shell.specs.Talks.{submitted, again, looked, synced, listed, watches, is_down, moved, stopped, started, unstarted, written, unwritten, stated, helped}
 use Rattle.rr_shell.proofs.saying.said_to_request.Goals as goal
 
 pub returns-then-asks_in_vain : goal.returns-then-asks_in_vain
-returns-then-asks_in_vain g c = rw (c.in_ok-down.ensures.0, c.in_ok-down.ensures.1, c.in_ok-down.ensures.2, c.in_ok-down.ensures.3) (is_down c.args.line.now (c.asks_in_vain.ensures.asks c.if-asks_in_vain.true) (c.asks_in_vain.ensures.off c.if-asks_in_vain.true))
+returns-then-asks_in_vain g c = rw (c.in_ok-troubled.ensures.0, c.in_ok-troubled.ensures.1, c.in_ok-troubled.ensures.2, c.in_ok-troubled.ensures.3) (is_down c.args.line.now (c.asks_in_vain.ensures.asks c.if-asks_in_vain.true) (c.asks_in_vain.ensures.off c.if-asks_in_vain.true))
 
 pub returns-in_ok-submitted-in-Submit : goal.returns-in_ok-submitted-in-Submit
 returns-in_ok-submitted-in-Submit g c = rw (c.in-Submit.is, c.in_ok-submitted-in-Submit.ensures.0, c.in_ok-submitted-in-Submit.ensures.1, c.in_ok-submitted-in-Submit.ensures.2, c.in_ok-submitted-in-Submit.ensures.3) (submitted c.in-Submit.op c.in_ok-submit-in-Submit.field-0 c.in_ok-submit-in-Submit.ensures.outcome c.in_ok-submit-in-Submit.ensures.submitted)
@@ -28,13 +28,16 @@ pub returns-in_ok-stopped-in-Stop : goal.returns-in_ok-stopped-in-Stop
 returns-in_ok-stopped-in-Stop g c = rw (c.in-Stop.is, c.in_ok-stopped-in-Stop.ensures.0, c.in_ok-stopped-in-Stop.ensures.1, c.in_ok-stopped-in-Stop.ensures.2, c.in_ok-stopped-in-Stop.ensures.3) (stopped c.in-Stop.next c.in_ok-stop-in-Stop.ensures)
 
 pub returns-in_ok-started-in-Start : goal.returns-in_ok-started-in-Start
-returns-in_ok-started-in-Start g c = rw (c.in-Start.is, c.in_ok-started-in-Start.ensures.0, c.in_ok-started-in-Start.ensures.1, c.in_ok-started-in-Start.ensures.2, c.in_ok-started-in-Start.ensures.3) (started c.in-Start.next c.in_ok-start-in-Start.ensures)
+returns-in_ok-started-in-Start g c = rw (c.in-Start.is, c.in_ok-started-in-Start.ensures.0, c.in_ok-started-in-Start.ensures.1, c.in_ok-started-in-Start.ensures.2, c.in_ok-started-in-Start.ensures.3) (started c.in-Start.next (rw c.if-branch.true at c.in_ok-start-in-Start.ensures))
+
+pub returns-in_ok-troubled-in-Start : goal.returns-in_ok-troubled-in-Start
+returns-in_ok-troubled-in-Start g c = rw (c.in-Start.is, c.in_ok-troubled-in-Start.ensures.0, c.in_ok-troubled-in-Start.ensures.1, c.in_ok-troubled-in-Start.ensures.2, c.in_ok-troubled-in-Start.ensures.3) (unstarted c.in-Start.next (rw c.if-branch.false at c.in_ok-start-in-Start.ensures))
 
 pub returns-in_ok-written-in-Snapshot : goal.returns-in_ok-written-in-Snapshot
 returns-in_ok-written-in-Snapshot g c = rw (c.in-Snapshot.is, c.in_ok-written-in-Snapshot.ensures.0, c.in_ok-written-in-Snapshot.ensures.1, c.in_ok-written-in-Snapshot.ensures.2, c.in_ok-written-in-Snapshot.ensures.3) (written c.in-Snapshot.next (rw c.if-branch.true at c.in_ok-snapshot-in-Snapshot.ensures))
 
-pub returns-in_ok-unwritten-in-Snapshot : goal.returns-in_ok-unwritten-in-Snapshot
-returns-in_ok-unwritten-in-Snapshot g c = rw (c.in-Snapshot.is, c.in_ok-unwritten-in-Snapshot.ensures.0, c.in_ok-unwritten-in-Snapshot.ensures.1, c.in_ok-unwritten-in-Snapshot.ensures.2, c.in_ok-unwritten-in-Snapshot.ensures.3) (unwritten c.in-Snapshot.next (rw c.if-branch.false at c.in_ok-snapshot-in-Snapshot.ensures))
+pub returns-in_ok-troubled-in-Snapshot : goal.returns-in_ok-troubled-in-Snapshot
+returns-in_ok-troubled-in-Snapshot g c = rw (c.in-Snapshot.is, c.in_ok-troubled-in-Snapshot.ensures.0, c.in_ok-troubled-in-Snapshot.ensures.1, c.in_ok-troubled-in-Snapshot.ensures.2, c.in_ok-troubled-in-Snapshot.ensures.3) (unwritten c.in-Snapshot.next (rw c.if-branch.false at c.in_ok-snapshot-in-Snapshot.ensures))
 
 pub returns-in_ok-stated-in-Status : goal.returns-in_ok-stated-in-Status
 returns-in_ok-stated-in-Status g c = rw (c.in-Status.is, c.in_ok-stated-in-Status.ensures.0, c.in_ok-stated-in-Status.ensures.2, c.in_ok-stated-in-Status.ensures.3) (stated c.in_ok-stated-in-Status.field-0.text.items c.in_ok-stated-in-Status.ensures.1)
