@@ -31,7 +31,7 @@ use Rattle.rr_cli.specs.Areas.{areas_text, areas_in}
 use Rattle.rr_cli.specs.AuditObjects.{yes_object, no_object, no_status}
 use Rattle.rr_cli.specs.Randoms.{IsNumberIn, IsNumberOf, AreNumbers}
 use Rattle.rr_cli.specs.RandomObjects.{IsDrawnIn}
-use Rattle.rr_cli.specs.Cuts.{IsCutBy}
+use Rattle.rr_cli.specs.Cuts.{IsCutBy, shows_nothing}
 use Rattle.rr_lively.specs.declared.finish.Ending.{Ending}
 use Rattle.rr_cli.specs.Finishing.{finished_by, IsFinishedDraw}
 use Rattle.rr_words.specs.Tasks.{CutWords, RandomWords, ShellWords, View, Task, Simulate, Viewing, Show, Random, Audit, Run, Shell, Sweep, Draw, Migrate, Verify, Export}
@@ -48,7 +48,7 @@ use Rattle.rr_cli.specs.Recognised.{IsScheduleText, IsTextOf, IsNoSchedule, IsNo
 use Rattle.rr_cli.specs.Shown.{ShowsTape, IsPictured}
 use Rattle.rr_cli.specs.Tapes.{yes_text}
 use Rattle.rr_cli.specs.declared.taped.TapeView.{TapeView}
-use Rattle.rr_cli.specs.declared.taped.TapeView.TheVariants.{Picture, Page}
+use Rattle.rr_cli.specs.declared.taped.TapeView.TheVariants.{Account, Picture, Page}
 
 -- the status of a stream that failed, by a device or by memory
 abbrev pub IsStreamStatus : ℕ → Type 0
@@ -187,20 +187,32 @@ pub data EndsOnSeed (On : (List ℕ → ℕ → Printing → Printing → Type 0
   unseeded : ((seed : ℕ) → IsNumberIn 0 (2 ^ 64 - 1) of_seed seed → ⊥) → status ≡ 2 → new ≡ old
       → EndsOnSeed On of_seed status old new
 
--- a picture of this cut of these bytes, or a page with it: it is printed; or the bytes are no schedule or memory was wanting, and
--- standard output is as it was
+-- a picture of a cut, or a page with it, is printed; or the cut has left no event in it, and then standard output is as it was and the
+-- status is that of wrong words
+abbrev pub PrintsCut : Cut → List ℕ → ℕ → Printing → Printing → Type 0
+PrintsCut cut text status old new =
+    ((shows_nothing cut text ≡ false) × Prints text status old new) ⊎ ((shows_nothing cut text ≡ true) × (status ≡ 2) × (new ≡ old))
+
+-- what is shown of a tape is printed, as its picture is
+abbrev pub PrintsShown : TapeView → List ℕ → ℕ → Printing → Printing → Type 0
+PrintsShown (Account how) text status old new = Prints text status old new
+PrintsShown (Picture cut) text status old new = PrintsCut cut text status old new
+PrintsShown (Page cut) text status old new = PrintsCut cut text status old new
+
+-- a picture of this cut of these bytes, or a page with it: it is printed, unless the cut has left no event in it; or the bytes are no
+-- schedule or memory was wanting, and standard output is as it was
 pub data EndsOnPicture (html : Bool) (cut : Cut) (bytes : List ℕ) (status : ℕ) (old new : Printing) : Type 0 where
-  pictured : (text : List ℕ) → IsPictured html cut bytes text → Prints text status old new → EndsOnPicture html cut bytes status old new
+  pictured : (text : List ℕ) → IsPictured html cut bytes text → PrintsCut cut text status old new → EndsOnPicture html cut bytes status old new
   unpictured : (refusal : Refusal) → IsFault IsEvent event_line bytes refusal → status ≡ status_of refusal
       → new ≡ old
       → EndsOnPicture html cut bytes status old new
 
--- what is shown of the tape that bytes are: a text that shows it is printed, as its events are a tape run and agree with one list;
+-- what is shown of the tape that bytes are: a text that shows it is printed, unless a cut has left no event in it, as its events are a tape run and agree with one list;
 -- or the world doesn't give some event next; or the bytes are no tape or memory was wanting. Unless it is printed, standard output
 -- is as it was
 pub data EndsOnTaped (what : TapeView) (bytes : List ℕ) (status : ℕ) (old new : Printing) : Type 0 where
   taped : (tape : Taped) (text : List ℕ) → IsTextOf tape bytes → IsTapeRun tape.nodes tape.events
-      → tapes.AgreesWithOneList tape.nodes tape.events → ShowsTape what tape text → Prints text status old new
+      → tapes.AgreesWithOneList tape.nodes tape.events → ShowsTape what tape text → PrintsShown what text status old new
       → EndsOnTaped what bytes status old new
   strange : (tape : Taped) (number : ℕ) → IsTextOf tape bytes → StopsAt tape.nodes tape.events number → status ≡ 7 → new ≡ old
       → EndsOnTaped what bytes status old new

@@ -8,7 +8,7 @@ ghost use Rattle.rr_cli.specs.Ends.{EndsOnExport, EndsOnDir};
 ghost use Rattle.rr_cli.specs.Clusters.{AreRead, HoldsNothing, IsExportOf};
 ghost use Rattle.rr_folders.specs.Agreement.{AllAlike, longest_decided};
 
-use crate::folder_faults::end_by_unlocked;
+use crate::folder_faults::{end_by_unlocked, end_without_such};
 use crate::folders::{end_without_dir, print_folder_faults, read_folders};
 use crate::refusals::end_by_refusal;
 use crate::streams::end_by_text;
@@ -150,6 +150,9 @@ where
     let Some(dir) = dir else {
         return end_without_dir(err, "export");
     };
+    if let Some(ending) = end_without_such(rt, err, dir) {
+        return ending;
+    }
     match read_folders(rt, dir) {
         Ok(readings) => export_readings(rt, dir, list, readings.as_slice(), out, err),
         Err(closed) => end_by_unlocked(err, &closed),

@@ -48,7 +48,7 @@ fn simulate_bytes<O: Sink, E: Write>(
 {
     match report_on(alloc, bytes, out) {
         Ok(text) => end_by_text(out, err, text.as_slice()),
-        Err(refusal) => end_by_fault(err, TextKind::Schedule, name, bytes, &refusal),
+        Err(refusal) => end_by_fault(alloc, err, TextKind::Schedule, name, bytes, &refusal),
     }
 }
 
