@@ -35,6 +35,7 @@ use Rattle.rr_cli.specs.Cuts.{IsCutBy, shows_nothing}
 use Rattle.rr_lively.specs.declared.finish.Ending.{Ending}
 use Rattle.rr_cli.specs.Finishing.{finished_by, IsFinishedDraw}
 use Rattle.rr_words.specs.Tasks.{CutWords, RandomWords, ShellWords, View, Task, Simulate, Viewing, Show, Random, Audit, Run, Shell, Sweep, Draw, Migrate, Verify, Export}
+use Rattle.rr_words.specs.declared.tasks.Exported.{Exported}
 use Rattle.rr_words.specs.declared.tasks.Form.{Form}
 use Rattle.rr_words.specs.declared.tasks.Form.TheVariants.{Plain, Json}
 use Rattle.rr_folders.specs.Judged.{MayStart}
@@ -266,17 +267,17 @@ EndsOnVerified form status old new = (refused : Bool) × EndsOnVerification form
 -- the export of folders: no two decide an instance differently, and that of the longest decided list is printed; or two do; or
 -- none holds facts and one is refused; or memory was wanting, or a program runs the cluster. Unless it is printed, standard output is as
 -- it was
-pub data EndsOnExport (list : Bool) (status : ℕ) (old new : Printing) : Type 0 where
+pub data EndsOnExport (what : Exported) (status : ℕ) (old new : Printing) : Type 0 where
   exported : (readings : List folder.Reading) (text : List ℕ) → AreRead readings → AllAlike readings
-      → IsExportOf list (longest_decided readings) text → Prints text status old new
-      → EndsOnExport list status old new
+      → IsExportOf what (longest_decided readings) text → Prints text status old new
+      → EndsOnExport what status old new
   clashing : (readings : List folder.Reading) → AreRead readings → (AllAlike readings → ⊥) → status ≡ 4 → new ≡ old
-      → EndsOnExport list status old new
+      → EndsOnExport what status old new
   unheld_by_all : (readings : List folder.Reading) (refusal : Refusal) → AreRead readings → AllByRecursion HoldsNothing readings
       → status ≡ status_of refusal → new ≡ old
-      → EndsOnExport list status old new
-  unexported : status ≡ 6 → new ≡ old → EndsOnExport list status old new
-  not_locked : IsStreamStatus status → new ≡ old → EndsOnExport list status old new
+      → EndsOnExport what status old new
+  unexported : status ≡ 6 → new ≡ old → EndsOnExport what status old new
+  not_locked : IsStreamStatus status → new ≡ old → EndsOnExport what status old new
 
 -- a run on the folder that a word names; or none is named, and standard output is as it was
 pub data EndsOnDir (On : ℕ → Printing → Printing → Type 0) (dir : Option Text) (status : ℕ) (old new : Printing) : Type 0 where
@@ -291,13 +292,14 @@ IsMistake kind = (kind ≢ DisplayHelp) × (kind ≢ DisplayVersion)
 abbrev pub version_text : List ℕ
 version_text = line (codes "rr 0.1.0, proved with rattle logic dac8208d650f15bf" ∷ [])
 
--- the line with which the help ends, behind an empty one
+-- the lines with which the help ends, behind an empty one
 abbrev pub statuses_text : List ℕ
 statuses_text =
-    10 ∷ codes "Exit status: 0 done, 1 a difference, 2 wrong words, 3 no schedule, 4 a damaged area, 5 a stream, a file or a device, 6 memory, 7 an audit, 8 no finish"
+    10 ∷ codes "Exit status: 0 done, 1 a difference, 2 wrong words, 3 no schedule, 4 a damaged area,\n"
+    ++ codes "5 a stream, a file or a device, 6 memory, 7 an audit, 8 no finish, 10 to 18 a strict shell"
     ++ 10 ∷ []
 
--- the help is printed, which ends with the line on statuses; or memory was wanting, and standard output is as it was
+-- the help is printed, which ends with the lines on statuses; or memory was wanting, and standard output is as it was
 pub data Helps (status : ℕ) (old new : Printing) : Type 0 where
   helped : (front : List ℕ) → Prints (front ++ statuses_text) status old new → Helps status old new
   unhelped : status ≡ 6 → new ≡ old → Helps status old new
@@ -348,8 +350,8 @@ pub data EndsBy (faults : Kinds) (task : Task) (from to : Readable) (status : �
   by_verification : (dir : Option Text) (form : Form) → faults ≡ [] → task ≡ Verify dir form
       → EndsOnDir (EndsOnVerified form) dir status old new
       → EndsBy faults task from to status old new
-  by_export : (dir : Option Text) (list : Bool) → faults ≡ [] → task ≡ Export dir list
-      → EndsOnDir (EndsOnExport list) dir status old new
+  by_export : (dir : Option Text) (what : Exported) → faults ≡ [] → task ≡ Export dir what
+      → EndsOnDir (EndsOnExport what) dir status old new
       → EndsBy faults task from to status old new
   without_views : (view : View) → faults ≡ [] → task ≡ Viewing view → status ≡ 2 → new ≡ old
       → EndsBy faults task from to status old new
