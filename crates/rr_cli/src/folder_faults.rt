@@ -50,9 +50,9 @@ pub(crate) fn end_without_such<R: Files, E: Write>(rt: &R, err: &mut E, folder: 
 {
     match fs::metadata(rt, folder) {
         Err(error) if error.kind() == ErrorKind::NotFound => {
-            let ending = end_by_refusal(err, &Refusal::Device);
+            let status = end_by_refusal(err, &Refusal::Device);
             let _ = writeln!(err, "{folder}: there is no folder of this name");
-            Some(ending)
+            Some(status)
         }
         _ => None,
     }
