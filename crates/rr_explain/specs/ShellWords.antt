@@ -71,8 +71,11 @@ is_same_word text word = are_nothing (behind_front text word)
 
 -- whether the first two letters of a text are those of a word the other way round, and all else is the same
 abbrev pub is_swapped : List ℕ → List ℕ → Bool
+is_swapped [] ws = false
+is_swapped (s ∷ []) ws = false
+is_swapped (s ∷ t ∷ ts) [] = false
+is_swapped (s ∷ t ∷ ts) (v ∷ []) = false
 is_swapped (s ∷ t ∷ ts) (v ∷ w ∷ ws) = (small_letter s == w && small_letter t == v) && is_same_word ts ws
-is_swapped ts ws = false
 
 -- what stands behind the first letter
 abbrev pub behind_first : List ℕ → List ℕ

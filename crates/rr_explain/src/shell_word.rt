@@ -251,15 +251,18 @@ fn small_letter(byte: u8) -> u8
 fn behind_front<'a, 'b>(text: &'a [u8], word: &'b [u8]) -> (&'a [u8], &'b [u8])
     ensures { (result.0.now, result.1.now) ≡ behind_front text.now word.now }
 {
-    match (text, word) {
-        ([first, rest @ ..], [letter, letters @ ..]) => {
-            if small_letter(*first) == *letter {
-                behind_front(rest, letters)
-            } else {
-                (text, word)
+    match text {
+        [] => (text, word),
+        [first, rest @ ..] => match word {
+            [] => (text, word),
+            [letter, letters @ ..] => {
+                if small_letter(*first) == *letter {
+                    behind_front(rest, letters)
+                } else {
+                    (text, word)
+                }
             }
-        }
-        _ => (text, word),
+        },
     }
 }
 
@@ -275,13 +278,16 @@ fn is_same_word(text: &[u8], word: &[u8]) -> bool
 fn is_swapped(text: &[u8], word: &[u8]) -> bool
     ensures { result ≡ is_swapped text.now word.now }
 {
-    match (text, word) {
-        ([first, second, rest @ ..], [letter, next, letters @ ..]) => {
-            small_letter(*first) == *next
-                && small_letter(*second) == *letter
-                && is_same_word(rest, letters)
-        }
-        _ => false,
+    match text {
+        [] | [_] => false,
+        [first, second, rest @ ..] => match word {
+            [] | [_] => false,
+            [letter, next, letters @ ..] => {
+                small_letter(*first) == *next
+                    && small_letter(*second) == *letter
+                    && is_same_word(rest, letters)
+            }
+        },
     }
 }
 
