@@ -16,7 +16,9 @@ use Rattle.rr_shell.specs.declared.status.NodeTrouble.{NodeTrouble}
 use Rattle.rr_shell.specs.declared.status.NodeTrouble.TheVariants.{Down, NoSnapshot, NoStart}
 use Rattle.rr_types.specs.declared.summary.NodeSummary.{NodeSummary}
 use Rattle.rr_shell.specs.declared.shell_line.LineFault.{LineFault}
-use Rattle.rr_shell.specs.declared.shell_line.LineFault.TheVariants.{NoCommand, BadName, BadValue, BadOwner, NoNode, TooLong}
+use Rattle.rr_shell.specs.declared.shell_line.LineFault.TheVariants.{NoCommand, BadName, BadValue, BadOwner, NoNode, Behind, TooLong}
+use Rattle.rr_explain.specs.declared.shell_word.ShellWord.{ShellWord}
+use Rattle.rr_explain.specs.ShellWords.{shell_words, word_text, word_form, word_example, word_help, help_line}
 
 -- a name that is bound: its owner, and its value unless that is empty
 abbrev pub bound_words : List ℕ → ℕ → List ℕ → List (List ℕ)
@@ -146,31 +148,39 @@ state_words (Some k) failure = spaced (up_words k)
 abbrev pub status_line : NodeStatus → List ℕ
 status_line s = spaced (codes "node" ∷ decimal s.node ∷ []) ++ 32 ∷ state_words s.summary (option_map (λ v. v.items) s.failure) ++ 10 ∷ []
 
--- the commands
-abbrev pub help_text : List ℕ
-help_text =
+-- the commands, or how one is used
+abbrev pub help_text : Option ShellWord → List ℕ
+help_text None =
     listed (map op_form op_kinds)
-    ++ codes ", look NAME, list [PREFIX], watch [PREFIX], sync, at NODE, stop NODE, start NODE, snapshot NODE, status, again, help, quit or exit"
+    ++ codes ", look NAME, list [PREFIX], watch [PREFIX], sync, at NODE, stop NODE, start NODE, snapshot NODE, status, again, help [COMMAND], quit or exit"
+help_text (Some word) = word_help word ++ codes "; for example: " ++ word_example word
 
--- the line that names them
-abbrev pub help_line : List ℕ
-help_line = help_text ++ 10 ∷ []
+-- the lines that tell them: one for each command, or one on it and one with an example
+abbrev pub help_lines : Option ShellWord → List ℕ
+help_lines None = flat_map help_line shell_words
+help_lines (Some word) = help_line word ++ codes "for example: " ++ word_example word ++ 10 ∷ []
 
 -- that there is no such node, of n nodes
 abbrev pub no_node_text : ℕ → List ℕ
 no_node_text n = codes "no such node: a number is expected that is below" ++ 32 ∷ decimal n
 
--- that a line is no command, and which ones there are
-abbrev pub no_command_text : List ℕ
-no_command_text = codes "no such command: " ++ listed (map op_word op_kinds) ++ codes ", look, list, watch, sync, at, stop, start, snapshot, status, again, help, quit or exit is expected"
+-- that a line is no command, and which one was meant, or else which ones there are
+abbrev pub no_command_text : Option ShellWord → List ℕ
+no_command_text None = codes "no such command: " ++ listed (map op_word op_kinds) ++ codes ", look, list, watch, sync, at, stop, start, snapshot, status, again, help, quit or exit is expected"
+no_command_text (Some word) = codes "no such command: did you mean `" ++ word_text word ++ codes "`?"
+
+-- how a command is written, behind what is wrong
+abbrev pub form_behind : ShellWord → List ℕ
+form_behind word = codes "; the form is `" ++ word_form word ++ codes "`"
 
 -- what is wrong with a line, and what is expected, of n nodes
 abbrev pub fault_text : ℕ → LineFault → List ℕ
-fault_text n NoCommand = no_command_text
-fault_text n BadName = codes "no name: 1 to 64 bytes of a to z, 0 to 9 and - are expected"
-fault_text n BadValue = codes "no value: 1 to 64 bytes from ! to ~ are expected, and no space"
-fault_text n BadOwner = codes "no owner: a number below 4294967296 is expected"
-fault_text n NoNode = no_node_text n
+fault_text n (NoCommand meant) = no_command_text meant
+fault_text n (BadName word) = codes "no name: 1 to 64 bytes of a to z, 0 to 9 and - are expected" ++ form_behind word
+fault_text n (BadValue word) = codes "no value: 0 to 64 bytes from ! to ~ are expected, and no space" ++ form_behind word
+fault_text n (BadOwner word) = codes "no owner: a number below 4294967296 is expected" ++ form_behind word
+fault_text n (NoNode word) = no_node_text n ++ form_behind word
+fault_text n (Behind word) = codes "too many words" ++ form_behind word
 fault_text n TooLong = codes "too long a line: at most 4096 bytes are expected"
 
 -- the line of a fault, of n nodes

@@ -8,14 +8,14 @@ ghost use Rattle.rr_shell.specs.Talks.{IsSaidTo, IsTurn, ending_trouble, Talks};
 
 use crate::answering::{Asked, Hint};
 use crate::hearing::{Heard, hear};
-use crate::line_read::read_shell_line;
+use crate::line_read::{read_shell_line, tidied};
 use crate::prompting::Prompting;
 use crate::saying::{Said, faulted, said_to_request};
-use crate::shell_line::LineFault;
+use crate::shell_line::{LineFault, ShellLine};
 use crate::troubles::Trouble;
 use crate::watching::{Watched, watch_and_hear};
 use rr_stream::{Sink, print_all};
-use rr_types::{NodeId, Nodes, Refusal};
+use rr_types::{NodeId, Nodes, Op, Refusal};
 use std::alloc::Global;
 use std::io;
 use std::thread::Threads;
@@ -63,10 +63,11 @@ fn said_to<A: Asked>(
     ensures { IfOk result (IsSaidTo A.did json nodes node heard.now) }
 {
     let line = match heard {
-        Heard::Line(line) => without_return(line.as_slice()),
+        Heard::Line(line) => tidied(alloc, without_return(line.as_slice()))?,
         Heard::TooLong => return Ok(Some(faulted(alloc, json, nodes, node, LineFault::TooLong)?)),
         Heard::End => return Ok(None),
     };
+    let line = line.as_slice();
     if let [] = line {
         return Ok(Some(Said {
             node,
@@ -78,6 +79,21 @@ fn said_to<A: Asked>(
     match read_shell_line(nodes, line) {
         Ok(line) => said_to_request(alloc, json, nodes, node, asked, &line),
         Err(fault) => Ok(Some(faulted(alloc, json, nodes, node, fault)?)),
+    }
+}
+
+// Whether a line sets the empty value, since it has none.
+fn sets_empty(alloc: Global, nodes: Nodes, heard: &Heard) -> bool {
+    let Heard::Line(line) = heard else {
+        return false;
+    };
+    let Ok(line) = tidied(alloc, without_return(line.as_slice())) else {
+        return false;
+    };
+    match read_shell_line(nodes, line.as_slice()) {
+        Ok(ShellLine::Submit(Op::Claim(_, value))) => value.as_bytes().is_empty(),
+        Ok(ShellLine::Submit(Op::Update(_, value))) => value.as_bytes().is_empty(),
+        _ => false,
     }
 }
 
@@ -163,6 +179,9 @@ fn take_turn<I: Prompting, O: Sink + Send, A: Asked + Send, R: Threads>(
     } = said;
     if let Err(error) = print_all(out, text.as_slice()) {
         return Err(Stop::Unprinted(error));
+    }
+    if trouble.is_none() && sets_empty(alloc, nodes, &heard) {
+        input.show(b"the value is empty, as none was given\n");
     }
     if let Some(hint) = asked.hint() {
         show_hint(alloc, input, hint);
