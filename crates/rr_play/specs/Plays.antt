@@ -3,10 +3,11 @@ use Rattle.std.specs.Prelude.{◌≡◌, ℕ, ◌+◌, ◌≤◌, List, [], ◌�
 use Rattle.std.specs.List.{AllByRecursion, flat_map}
 use Rattle.rr_types.specs.declared.command.Command.{Command}
 use Rattle.rr_text.specs.declared.event.Event.{Event}
+use Rattle.rr_text.specs.Lines.{nodes_line}
 use Rattle.rr_text.specs.ReportTexts.{line, decided_lines}
 use Rattle.rr_text.specs.Scheduled.{IsEvent}
 use Rattle.rr_text.specs.ScheduleTexts.{event_line}
-use Rattle.rr_sim.specs.Clusters.{Cluster}
+use Rattle.rr_sim.specs.Clusters.{Cluster, new_cluster}
 use Rattle.rr_sim.specs.Random.{StepsInMemory}
 use Rattle.rr_sim.specs.Told.{told, IsReportOn}
 use Rattle.rr_lively.specs.Lively.{IsSoFar}
@@ -27,6 +28,10 @@ pub record IsPlayed (s : Played) : Type 0 where
   pub below : s.line ≤ 1000002
   pub so_far : IsSoFar s.nodes s.line s.cluster s.schedule s.report
 
+-- n nodes that are all down, over empty disks, and no events
+abbrev pub unplayed : ℕ → Played
+unplayed n = record { nodes = n; line = 2; cluster = new_cluster n; schedule = nodes_line n; report = [] }
+
 -- an event was played: its line joins the schedule, and the lines that the simulator tells of it join the report
 pub record Plays (e : Event) (old new : Played) : Type 0 where
   pub next : Cluster
@@ -37,17 +42,19 @@ pub record Plays (e : Event) (old new : Played) : Type 0 where
   pub schedule : new.schedule ≡ old.schedule ++ event_line e
   pub report : new.report ≡ old.report ++ told next.lines
 
--- the schedule has more events, and the report more lines
-pub record GoesOn (old new : Played) : Type 0 where
+-- events of these nodes were added to a schedule, and its report has more lines
+pub record GoesOnBy (added : List ℕ) (old new : Played) : Type 0 where
   pub more : List Event
-  pub added : List ℕ
   pub nodes : new.nodes ≡ old.nodes
   pub line : new.line ≡ old.line + length more
   pub each : AllByRecursion (IsEvent old.nodes) more
   pub schedule : new.schedule ≡ old.schedule ++ flat_map event_line more
   pub report : new.report ≡ old.report ++ added
 
--- the run of the events before a line of the schedule
+abbrev pub GoesOn : Played → Played → Type 0
+GoesOn old new = (added : List ℕ) × GoesOnBy added old new
+
+-- the run of the events before a line of a schedule
 pub record GoesBack (at : ℕ) (old new : Played) : Type 0 where
   pub less : List Event
   pub nodes : new.nodes ≡ old.nodes

@@ -128,11 +128,7 @@ pub fn send_all(session: Session, alloc: Global, node: NodeId) -> Result<Session
 }
 
 /// Acknowledges each request of a node that is decided.
-pub fn acknowledge_all(
-    session: Session,
-    alloc: Global,
-    node: NodeId,
-) -> Result<Session, AllocError>
+pub fn acknowledge_all(session: Session, alloc: Global, node: NodeId) -> Result<Session, AllocError>
     ensures { IfOk result (λ s. GoesOn session s) }
 {
     if is_up(session.stance(node)) {

@@ -20,11 +20,7 @@ fn is_awaited(session: &Session, lost: &BTreeSet<u32>, number: u32) -> bool {
 }
 
 /// Does once what is due at each node, and gives each message that is on the wire by then to its addressee.
-fn go_once(
-    session: Session,
-    alloc: Global,
-    lost: &BTreeSet<u32>,
-) -> Result<Session, AllocError>
+fn go_once(session: Session, alloc: Global, lost: &BTreeSet<u32>) -> Result<Session, AllocError>
     ensures { IfOk result (λ s. GoesOn session s) }
 {
     let nodes = session.nodes();
@@ -46,11 +42,7 @@ fn go_once(
 
 /// Goes on until nothing is due: device calls, marks, flushes, messages that may leave, requests that are decided, and messages
 /// on the wire for nodes that are up, but for those that are lost. It stops behind some ten thousand events.
-pub fn run(
-    session: Session,
-    alloc: Global,
-    lost: &BTreeSet<u32>,
-) -> Result<Session, AllocError>
+pub fn run(session: Session, alloc: Global, lost: &BTreeSet<u32>) -> Result<Session, AllocError>
     ensures { IfOk result (λ s. GoesOn session s) }
 {
     let begun = session.line();

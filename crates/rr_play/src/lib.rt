@@ -22,6 +22,7 @@
 //! ```
 #![tactic(auto)]
 
+mod acting;
 mod answering;
 mod forms;
 mod going_on;
@@ -34,5 +35,5 @@ mod telling;
 pub use answering::{Answer, Deed, Play};
 pub use forms::{acknowledge_all, deliver, flush, open, send_all};
 pub use going_on::run;
-pub use line_read::{Typed, read_typed_line};
+pub use line_read::{Act, Asked, Typed, read_typed_line};
 pub use session::Session;

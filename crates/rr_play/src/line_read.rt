@@ -3,36 +3,62 @@
 use rr_text::text_read::{cut, node, number, small_number};
 use rr_types::{NodeId, Nodes};
 
-/// What a line asks for.
+/// A short form: a sequence of events.
+#[derive(Clone, Copy, Debug)]
+pub enum Act {
+    /// Opens the disk of a node.
+    Open(NodeId),
+    /// Does what is due at the disk of a node.
+    Flush(NodeId),
+    /// Gives a message to its addressee.
+    Deliver(u32),
+    /// Goes on until nothing is due.
+    Run,
+    /// Goes on as `rr sim --finish` does.
+    Finish,
+}
+
+/// A question.
+#[derive(Clone, Copy, Debug)]
+pub enum Asked {
+    /// Which messages nobody has heard.
+    Wire,
+    /// What is due at each node.
+    Due,
+    /// What a node would restart with.
+    WouldLose(NodeId),
+    /// What the event of a line did.
+    Why(u64),
+    /// The schedule.
+    List,
+    /// The decided commands.
+    Decided,
+    /// What may be typed.
+    Help,
+}
+
+/// What a line asks for that is no event.
 #[derive(Clone, Copy, Debug)]
 pub enum Typed<'a> {
     /// Nothing: the line is empty.
     Nothing,
-    /// An event of a schedule, if it is one.
-    Event(&'a [u8]),
+    /// What is done.
+    Act(Act),
+    /// What is asked.
+    Ask(Asked),
     /// A run of so many nodes, in place of one without events.
     Nodes(Nodes),
-    /// What is done: each is a sequence of events.
-    Open(NodeId),
-    Flush(NodeId),
-    Deliver(u32),
+    /// A message counts as lost.
     Lose(u32),
-    Run,
-    Finish,
-    /// What is asked.
-    Wire,
-    Due,
-    WouldLose(NodeId),
-    Why(u64),
-    List,
-    Decided,
-    Help,
-    /// What is taken back.
+    /// What the last line added is taken back.
     Undo,
+    /// The events from a line on are taken back.
     Back(u64),
-    /// What is written to the file of this name.
+    /// The schedule is written to the file of this name.
     Save(&'a [u8]),
+    /// A picture is written to the file of this name.
     Draw(&'a [u8]),
+    /// The play is over.
     Quit,
 }
 
@@ -48,13 +74,13 @@ fn parts(text: &[u8]) -> (&[u8], &[u8]) {
 fn bare(text: &[u8]) -> Option<Typed<'_>> {
     let typed = match text {
         b"" => Typed::Nothing,
-        b"run" => Typed::Run,
-        b"finish" => Typed::Finish,
-        b"wire" => Typed::Wire,
-        b"due" => Typed::Due,
-        b"list" => Typed::List,
-        b"decided" => Typed::Decided,
-        b"help" => Typed::Help,
+        b"run" => Typed::Act(Act::Run),
+        b"finish" => Typed::Act(Act::Finish),
+        b"wire" => Typed::Ask(Asked::Wire),
+        b"due" => Typed::Ask(Asked::Due),
+        b"list" => Typed::Ask(Asked::List),
+        b"decided" => Typed::Ask(Asked::Decided),
+        b"help" => Typed::Ask(Asked::Help),
         b"undo" => Typed::Undo,
         b"quit" | b"exit" => Typed::Quit,
         _ => return None,
@@ -73,14 +99,14 @@ fn count_at(word: &[u8]) -> Option<Nodes> {
 /// What a line asks for by its first word and what stands behind it.
 fn with_rest<'a>(nodes: Nodes, word: &[u8], rest: &'a [u8]) -> Option<Typed<'a>> {
     let typed = match word {
-        b"open" => Typed::Open(node(nodes, rest)?),
-        b"flush" => Typed::Flush(node(nodes, rest)?),
-        b"crash?" => Typed::WouldLose(node(nodes, rest)?),
-        b"deliver" => Typed::Deliver(small_number(rest)?),
+        b"open" => Typed::Act(Act::Open(node(nodes, rest)?)),
+        b"flush" => Typed::Act(Act::Flush(node(nodes, rest)?)),
+        b"deliver" => Typed::Act(Act::Deliver(small_number(rest)?)),
+        b"crash?" => Typed::Ask(Asked::WouldLose(node(nodes, rest)?)),
+        b"why" => Typed::Ask(Asked::Why(number(rest)?)),
+        b"nodes" => Typed::Nodes(count_at(rest)?),
         b"lose" => Typed::Lose(small_number(rest)?),
         b"back" => Typed::Back(number(rest)?),
-        b"why" => Typed::Why(number(rest)?),
-        b"nodes" => Typed::Nodes(count_at(rest)?),
         b"save" if !rest.is_empty() => Typed::Save(rest),
         b"draw" if !rest.is_empty() => Typed::Draw(rest),
         _ => return None,
@@ -88,15 +114,12 @@ fn with_rest<'a>(nodes: Nodes, word: &[u8], rest: &'a [u8]) -> Option<Typed<'a>>
     Some(typed)
 }
 
-/// What a line asks for, where there are `nodes` nodes. `text` is the line without its line feed. A line that is no form of its
-/// own is taken for an event.
-pub fn read_typed_line(nodes: Nodes, text: &[u8]) -> Typed<'_> {
+/// What a line asks for, where there are `nodes` nodes, if it is a short form, a question or another of these. `text` is the line
+/// without its line feed.
+pub fn read_typed_line(nodes: Nodes, text: &[u8]) -> Option<Typed<'_>> {
     if let Some(typed) = bare(text) {
-        return typed;
+        return Some(typed);
     }
     let (word, rest) = parts(text);
-    match with_rest(nodes, word, rest) {
-        Some(typed) => typed,
-        None => Typed::Event(text),
-    }
+    with_rest(nodes, word, rest)
 }

@@ -1,7 +1,7 @@
 //! Questions on a run: what is on the wire, what is due, and what a crash would leave.
 
-ghost use Rattle.std.specs.Prelude.{◌≡◌, IfOk};
-ghost use Rattle.rr_play.specs.Plays.{Played};
+ghost use Rattle.std.specs.Prelude.{◌≡◌, [], OnOk, IfOk};
+ghost use Rattle.rr_play.specs.Answers.{AddsNotes};
 
 use crate::forms::{acknowledge_all, add_event, flush, is_up, node_at, open, send_all};
 use crate::note::push_note;
@@ -19,7 +19,9 @@ pub(crate) fn wire_notes(
     alloc: Global,
     session: &Session,
     lost: &BTreeSet<u32>,
-) -> Result<Vec<u8>, AllocError> {
+) -> Result<Vec<u8>, AllocError>
+    ensures { IfOk result (λ text. AddsNotes [] text.items) }
+{
     let mut text = Vec::new(alloc);
     let mut number = 0u32;
     for message in session.cluster().wire() {
@@ -51,7 +53,14 @@ fn push_due(
     node: NodeId,
     times: u64,
 ) -> Result<(), AllocError> {
-    push_bytes(words, if is_first { b" ".as_slice() } else { b", ".as_slice() })?;
+    push_bytes(
+        words,
+        if is_first {
+            b" ".as_slice()
+        } else {
+            b", ".as_slice()
+        },
+    )?;
     push_bytes(words, event)?;
     push_number_word(words, u64::from(node.index()))?;
     if times > 1 {
@@ -77,6 +86,7 @@ fn due_word(stance: Stance) -> Option<&'static [u8]> {
 fn push_due_at(
     alloc: Global,
     words: &mut Vec<u8>,
+    session: &Session,
     tried: Session,
     node: NodeId,
 ) -> Result<Session, AllocError> {
@@ -110,6 +120,20 @@ fn push_due_at(
         push_due(words, is_first, b"ack", node, acks)?;
         is_first = false;
     }
+    let messages = unheard_count(session, node);
+    if messages > 0 && is_up(stance) {
+        push_bytes(
+            words,
+            if is_first {
+                b" ".as_slice()
+            } else {
+                b", ".as_slice()
+            },
+        )?;
+        push_number(words, messages)?;
+        push_bytes(words, b" on the wire for it")?;
+        is_first = false;
+    }
     if is_first {
         push_bytes(words, b" nothing")?;
     }
@@ -122,7 +146,9 @@ fn copy_of(alloc: Global, session: &Session) -> Result<Session, AllocError> {
 }
 
 /// The notes on what is due at each node.
-pub(crate) fn due_notes(alloc: Global, session: &Session) -> Result<Vec<u8>, AllocError> {
+pub(crate) fn due_notes(alloc: Global, session: &Session) -> Result<Vec<u8>, AllocError>
+    ensures { IfOk result (λ text. AddsNotes [] text.items) }
+{
     let nodes = session.nodes();
     let mut text = Vec::new(alloc);
     let mut tried = copy_of(alloc, session)?;
@@ -131,7 +157,7 @@ pub(crate) fn due_notes(alloc: Global, session: &Session) -> Result<Vec<u8>, All
         push_bytes(&mut words, b"node ")?;
         push_number(&mut words, u64::from(number))?;
         push_bytes(&mut words, b":")?;
-        tried = push_due_at(alloc, &mut words, tried, node_at(nodes, number))?;
+        tried = push_due_at(alloc, &mut words, session, tried, node_at(nodes, number))?;
         push_note(&mut text, words.as_slice())?;
     }
     Ok(text)
@@ -173,7 +199,9 @@ fn push_crash(
     tried: Session,
     node: NodeId,
     cut: u32,
-) -> Result<(), AllocError> {
+) -> Result<(), AllocError>
+    ensures { OnOk result (AddsNotes text.old.items text.new.items) }
+{
     let (tried, _) = add_event(tried, alloc, &crash_of(alloc, node, cut))?;
     let tried = open(tried, alloc, node)?;
     let mut words = Vec::from_slice(alloc, about)?;
@@ -187,18 +215,43 @@ pub(crate) fn crash_notes(
     alloc: Global,
     session: &Session,
     node: NodeId,
-) -> Result<Vec<u8>, AllocError> {
+) -> Result<Vec<u8>, AllocError>
+    ensures { IfOk result (λ text. AddsNotes [] text.items) }
+{
     let mut text = Vec::new(alloc);
     if !is_up(session.stance(node)) {
-        push_note(&mut text, b"the node isn't up, so its memory has nothing to lose")?;
+        push_note(
+            &mut text,
+            b"the node isn't up, so its memory has nothing to lose",
+        )?;
     }
     let least = copy_of(alloc, session)?;
     push_crash(alloc, &mut text, b"only what is synced: ", least, node, 0)?;
     let most = copy_of(alloc, session)?;
-    push_crash(alloc, &mut text, b"all that is written: ", most, node, u32::MAX)?;
+    push_crash(
+        alloc,
+        &mut text,
+        b"all that is written: ",
+        most,
+        node,
+        u32::MAX,
+    )?;
     if is_up(session.stance(node)) {
         let all = flush(copy_of(alloc, session)?, alloc, node)?;
         push_crash(alloc, &mut text, b"had it flushed all: ", all, node, 0)?;
     }
     Ok(text)
+}
+
+/// How many messages are on the wire for a node that nobody has heard.
+fn unheard_count(session: &Session, node: NodeId) -> u64 {
+    let mut count = 0u64;
+    let mut number = 0u32;
+    for message in session.cluster().wire() {
+        if message.to == node && !session.has_heard(number) {
+            count = count.saturating_add(1);
+        }
+        number = number.saturating_add(1);
+    }
+    count
 }

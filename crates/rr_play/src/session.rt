@@ -1,17 +1,19 @@
 //! A run that is played by hand: events are added to a schedule one by one, and the simulator makes each at once.
 
-ghost use Rattle.std.specs.Prelude.{◌≡◌, ◌⊎◌, ◌×◌, ◌↔◌, ◌<◌, ◌≤◌, ◌+◌, ℕ, [], ◌++◌, length, false, IsTrue, IfOk, IfErr, OnOk};
-ghost use Rattle.rr_text.specs.Lines.{nodes_line, HasNoLine};
+ghost use Rattle.std.specs.Prelude.{◌≡◌, ◌⊎◌, ◌↔◌, ◌<◌, ◌≤◌, ◌+◌, ℕ, [], ◌∷◌, ◌++◌, length, false, IsTrue, IfOk, IfErr, OnOk};
+ghost use Rattle.std.specs.List.{AllByRecursion, flat_map};
+ghost use Rattle.rr_text.specs.Lines.{nodes_line};
 ghost use Rattle.rr_text.specs.Scheduled.{IsEvent};
 ghost use Rattle.rr_text.specs.ScheduleTexts.{event_line, schedule_text};
-ghost use Rattle.rr_sim.specs.Clusters.{new_cluster};
-ghost use Rattle.rr_play.specs.Plays.{Played, Plays, GoesOn, GoesBack, IsReportOf};
+ghost use Rattle.rr_text.specs.declared.event.Event.{Event};
+ghost use Rattle.rr_play.specs.Plays.{Plays, GoesBack, IsReportOf, unplayed};
 
 use rr_lively::may_stay;
 use rr_sim::{Cluster, Stance, decided_list};
 use rr_text::text_parse::next_event;
 use rr_text::text_report::push_decided_list;
 use rr_text::text_schedule::{push_event_line, push_nodes_line};
+use rr_text::text_word::{push_byte, push_bytes};
 use rr_text::{Event, Happening, MAX_EVENTS, Schedule};
 use rr_types::{Input, NodeEvent, NodeId, Nodes, Refusal};
 use std::alloc::{AllocError, Global};
@@ -48,7 +50,7 @@ impl Model for Session {
 impl Session {
     /// A run without events, of nodes that are all down, over empty disks.
     pub fn new(alloc: Global, nodes: Nodes) -> Result<Session, AllocError>
-        ensures ok { IfOk result (λ s. s ≡ record { nodes = nodes; line = 2; cluster = new_cluster nodes; schedule = nodes_line nodes; report = [] }) }
+        ensures ok { IfOk result (λ s. s ≡ unplayed nodes) }
     {
         let _count = nodes.count();
         let mut schedule = Vec::new(alloc);
@@ -72,8 +74,19 @@ impl Session {
         ensures line { IfOk result (λ s. s.line ≡ 2 + length schedule.now.events) }
         ensures schedule { IfOk result (λ s. s.schedule ≡ schedule_text schedule.now) }
     {
-        let mut session = Session::new(alloc, schedule.nodes())?;
-        for event in schedule.events() {
+        Session::of_events(alloc, schedule.nodes(), schedule.events())
+    }
+
+    /// The run of events of these nodes.
+    fn of_events(alloc: Global, nodes: Nodes, events: &[Event]) -> Result<Session, AllocError>
+        requires each { AllByRecursion (IsEvent nodes) events.now }
+        requires short { length events.now ≤ 1000000 }
+        ensures nodes { IfOk result (λ s. s.nodes ≡ nodes) }
+        ensures line { IfOk result (λ s. s.line ≡ 2 + length events.now) }
+        ensures schedule { IfOk result (λ s. s.schedule ≡ nodes_line nodes ++ flat_map event_line events.now) }
+    {
+        let mut session = Session::new(alloc, nodes)?;
+        for event in events {
             session = session.happen(alloc, event)?;
         }
         Ok(session)
@@ -148,6 +161,33 @@ impl Session {
         }
     }
 
+    /// Plays the event that a line says, and answers whether it says one. The run stays as it is where the line says none, or the schedule
+    /// is full. `line` has no line feed.
+    ///
+    /// # Errors
+    /// As those of `happen`.
+    pub fn play_line(self, alloc: Global, line: &[u8]) -> Result<(Session, bool), AllocError>
+        ensures played { IfOk result (λ r. IsTrue r.1 → (e : Event) × IsEvent self.nodes e × (line.now ++ 10 ∷ [] ≡ event_line e) × Plays e self r.0) }
+        ensures same { IfOk result (λ r. r.1 ≡ false → r.0 ≡ self) }
+        ensures refused { IfOk result (λ r. r.1 ≡ false → (e : Event) → IsEvent self.nodes e → line.now ++ 10 ∷ [] ≡ event_line e → 1000002 ≤ self.line) }
+    {
+        if self.is_full() {
+            return Ok((self, false));
+        }
+        let mut text = Vec::new(alloc);
+        push_nodes_line(&mut text, self.nodes)?;
+        push_bytes(&mut text, line)?;
+        push_byte(&mut text, b'\n')?;
+        match Schedule::parse(alloc, text.as_slice()) {
+            Ok(schedule) => match schedule.events() {
+                [event] => Ok((self.happen(alloc, event)?, true)),
+                _ => Ok((self, false)),
+            },
+            Err(Refusal::OutOfMemory) => Err(AllocError),
+            Err(_) => Ok((self, false)),
+        }
+    }
+
     /// Plays an event of these nodes: it joins the schedule, and what the simulator tells of it joins the report.
     ///
     /// # Errors
@@ -186,11 +226,7 @@ impl Session {
     ///
     /// # Errors
     /// As those of `happen`.
-    pub fn happen_if_due(
-        self,
-        alloc: Global,
-        event: &Event,
-    ) -> Result<(Session, bool), AllocError>
+    pub fn happen_if_due(self, alloc: Global, event: &Event) -> Result<(Session, bool), AllocError>
         requires event { IsEvent self.nodes event.now }
         requires room { self.line < 1000002 }
         ensures played { IfOk result (λ r. IsTrue r.1 → Plays event.now self r.0) }
@@ -238,12 +274,8 @@ impl Session {
         let Ok(schedule) = Schedule::parse(alloc, self.schedule.as_slice()) else {
             return Err(AllocError);
         };
-        let mut session = Session::new(alloc, schedule.nodes())?;
         let count = (line - 2) as usize;
-        for event in &schedule.events()[..count] {
-            session = session.happen(alloc, event)?;
-        }
-        Ok(session)
+        Session::of_events(alloc, schedule.nodes(), &schedule.events()[..count])
     }
 
     /// The text of the report on the schedule: the lines that were told, and the decided list.

@@ -1,9 +1,9 @@
 //! What is said of events, of faults and of the run, as notes.
 
-ghost use Rattle.std.specs.Prelude.{◌≡◌, IfOk};
-ghost use Rattle.rr_play.specs.Plays.{Played};
+ghost use Rattle.std.specs.Prelude.{◌≡◌, [], OnOk, IfOk};
+ghost use Rattle.rr_play.specs.Answers.{AddsNotes};
 
-use crate::note::push_note;
+use crate::note::{push_note, push_notes};
 use crate::session::Session;
 use rr_account::{account_on, explanation};
 use rr_explain::print_schedule_fault;
@@ -19,7 +19,8 @@ use std::alloc::{AllocError, Global};
 const MOST_NAMED: u64 = 8;
 
 /// What the page of help says, a line each.
-const HELP: &[u8] = b"a line of a schedule is an event, as: submit 0 7 1 claim a x, hear 1 2, crash 0 0 0 -
+const HELP: &[u8] =
+    b"a line of a schedule is an event, as: submit 0 7 1 claim a x, hear 1 2, crash 0 0 0 -
 nodes N      begins with N nodes, 1 to 7, before the first event
 open P       opens the disk of node P, until it is up
 flush P      does what is due at the disk of node P: what is staged is flushed and marked
@@ -40,23 +41,10 @@ draw FILE    writes a picture of the run to a file, as SVG
 quit         ends, as the end of the input does
 ";
 
-/// Appends each line of a text as a note.
-fn push_notes(text: &mut Vec<u8>, lines: &[u8]) -> Result<(), AllocError> {
-    let mut rest = lines;
-    for _line in 0..lines.len() {
-        match cut_line(rest) {
-            Some((line, behind)) => {
-                push_note(text, line)?;
-                rest = behind;
-            }
-            None => return Ok(()),
-        }
-    }
-    Ok(())
-}
-
 /// The page of help.
-pub(crate) fn help_notes(alloc: Global) -> Result<Vec<u8>, AllocError> {
+pub(crate) fn help_notes(alloc: Global) -> Result<Vec<u8>, AllocError>
+    ensures { IfOk result (λ text. AddsNotes [] text.items) }
+{
     let mut text = Vec::new(alloc);
     push_notes(&mut text, HELP)?;
     Ok(text)
@@ -86,7 +74,14 @@ fn push_events(words: &mut Vec<u8>, lines: &[u8]) -> Result<(), AllocError> {
             return Ok(());
         };
         let (count, after) = alike(line, behind);
-        push_bytes(words, if group == 0 { b": ".as_slice() } else { b", ".as_slice() })?;
+        push_bytes(
+            words,
+            if group == 0 {
+                b": ".as_slice()
+            } else {
+                b", ".as_slice()
+            },
+        )?;
         push_bytes(words, line)?;
         if count > 1 {
             push_bytes(words, b" (")?;
@@ -104,12 +99,14 @@ fn push_events(words: &mut Vec<u8>, lines: &[u8]) -> Result<(), AllocError> {
 
 /// Appends the note on the events that were added from a line on, whose lines are these.
 pub(crate) fn push_added(
-    text: &mut Vec<u8>,
     alloc: Global,
+    text: &mut Vec<u8>,
     session: &Session,
     line: u64,
     added: &[u8],
-) -> Result<(), AllocError> {
+) -> Result<(), AllocError>
+    ensures { OnOk result (AddsNotes text.old.items text.new.items) }
+{
     let count = session.line().saturating_sub(line);
     if count == 0 {
         if session.is_full() {
@@ -136,8 +133,9 @@ pub(crate) fn fault_notes(
     alloc: Global,
     session: &Session,
     line: &[u8],
-    refusal: &Refusal,
-) -> Result<Vec<u8>, AllocError> {
+) -> Result<Vec<u8>, AllocError>
+    ensures { IfOk result (λ text. AddsNotes [] text.items) }
+{
     let mut text = Vec::new(alloc);
     if session.is_full() {
         push_note(&mut text, b"the schedule has a million events")?;
@@ -145,15 +143,22 @@ pub(crate) fn fault_notes(
     }
     let mut bytes = Vec::from_slice(alloc, session.schedule())?;
     push_bytes(&mut bytes, line)?;
+    push_bytes(&mut bytes, b"\n")?;
     let mut fault = Vec::new(alloc);
-    let _ = print_schedule_fault(&mut fault, "schedule", bytes.as_slice(), refusal);
+    let refusal = Refusal::BadEvent(session.line());
+    let _ = print_schedule_fault(&mut fault, "schedule", bytes.as_slice(), &refusal);
     push_notes(&mut text, fault.as_slice())?;
-    push_note(&mut text, b"nothing was added; help lists what may be typed")?;
+    push_note(
+        &mut text,
+        b"nothing was added; help lists what may be typed",
+    )?;
     Ok(text)
 }
 
 /// The notes on the schedule: its lines with their numbers.
-pub(crate) fn list_notes(alloc: Global, session: &Session) -> Result<Vec<u8>, AllocError> {
+pub(crate) fn list_notes(alloc: Global, session: &Session) -> Result<Vec<u8>, AllocError>
+    ensures { IfOk result (λ text. AddsNotes [] text.items) }
+{
     let mut text = Vec::new(alloc);
     let mut rest = session.schedule();
     for number in 1..session.line() {
@@ -172,7 +177,9 @@ pub(crate) fn list_notes(alloc: Global, session: &Session) -> Result<Vec<u8>, Al
 }
 
 /// The notes on the commands that are decided.
-pub(crate) fn decided_notes(alloc: Global, session: &Session) -> Result<Vec<u8>, AllocError> {
+pub(crate) fn decided_notes(alloc: Global, session: &Session) -> Result<Vec<u8>, AllocError>
+    ensures { IfOk result (λ text. AddsNotes [] text.items) }
+{
     let decided = decided_list(alloc, session.nodes(), session.cluster().wire())?;
     let mut lines = Vec::new(alloc);
     push_decided_list(&mut lines, decided.as_slice())?;
@@ -195,7 +202,9 @@ pub(crate) fn why_notes(
     alloc: Global,
     session: &Session,
     number: u64,
-) -> Result<Vec<u8>, AllocError> {
+) -> Result<Vec<u8>, AllocError>
+    ensures { IfOk result (λ text. AddsNotes [] text.items) }
+{
     let mut text = Vec::new(alloc);
     let mut quiet = Counted::new(Vec::new(alloc));
     let Ok(account) = account_on(alloc, session.schedule(), &mut quiet) else {
@@ -214,8 +223,9 @@ pub(crate) fn why_notes(
             if !told.is_empty() {
                 push_note(&mut text, told)?;
             }
-            push_bytes(&mut text, line)?;
-            push_bytes(&mut text, b"\n")?;
+            if let [b' ', b' ', b' ', b' ', words @ ..] = line {
+                push_note(&mut text, words)?;
+            }
             return Ok(text);
         }
         told = if line.starts_with(b"    ") { &[] } else { line };

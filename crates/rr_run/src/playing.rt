@@ -13,10 +13,9 @@ use rr_text::Schedule;
 use rr_text::text_word::push_bytes;
 use rr_types::{Nodes, Refusal};
 use std::alloc::Global;
-use std::fs;
-use std::io;
 use std::io::Write;
 use std::rt::Files;
+use std::{fs, io};
 
 /// How a play goes on behind a line.
 enum Turn {
@@ -79,13 +78,33 @@ fn do_deed<R: Files + AllocGlobal, O: Sink, E: Write>(
     match deed {
         Deed::GoOn => Turn::Next(play),
         Deed::Quit => Turn::End(0),
-        Deed::Write { path, bytes } => match write_file(rt, path.as_slice(), bytes.as_slice()) {
-            Ok(text) => match print_all(out, text.as_slice()) {
-                Ok(()) => Turn::Next(play),
-                Err(error) => Turn::End(end_by_unprinted(err, &error)),
-            },
-            Err(refusal) => Turn::End(end_by_refusal(err, &refusal)),
+        Deed::Save { path, schedule } => {
+            write_and_tell(rt, play, path.as_slice(), schedule.as_slice(), out, err)
+        }
+        Deed::Draw { path, picture } => {
+            write_and_tell(rt, play, path.as_slice(), picture.as_slice(), out, err)
+        }
+    }
+}
+
+// Writes bytes to the file of this name, and prints how that went.
+fn write_and_tell<R: Files + AllocGlobal, O: Sink, E: Write>(
+    rt: &R,
+    play: Play,
+    path: &[u8],
+    bytes: &[u8],
+    out: &mut O,
+    err: &mut E,
+) -> Turn
+    ensures front { IsFrontSaid (O.printing out.old) (O.printing out.new) }
+    ensures quiet { IsQuietTurn result (E.contents err.old) (E.contents err.new) }
+{
+    match write_file(rt, path, bytes) {
+        Ok(text) => match print_all(out, text.as_slice()) {
+            Ok(()) => Turn::Next(play),
+            Err(error) => Turn::End(end_by_unprinted(err, &error)),
         },
+        Err(refusal) => Turn::End(end_by_refusal(err, &refusal)),
     }
 }
 
@@ -110,6 +129,14 @@ fn answer_line<R: Files + AllocGlobal, O: Sink, E: Write>(
     }
 }
 
+// A line without the carriage return that it ends with, if it does.
+fn without_return(line: &[u8]) -> &[u8] {
+    match line {
+        [front @ .., b'\r'] => front,
+        _ => line,
+    }
+}
+
 // Hears a line, and answers it.
 fn take_turn<R: Files + AllocGlobal, I: Prompting, O: Sink, E: Write>(
     rt: &R,
@@ -123,7 +150,9 @@ fn take_turn<R: Files + AllocGlobal, I: Prompting, O: Sink, E: Write>(
 {
     input.prompt();
     match hear(rt.alloc(), input) {
-        Ok(Heard::Line(line)) => answer_line(rt, play, line.as_slice(), out, err),
+        Ok(Heard::Line(line)) => {
+            answer_line(rt, play, without_return(line.as_slice()), out, err)
+        }
         Ok(Heard::TooLong) => match print_all(out, b"    the line is too long\n") {
             Ok(()) => Turn::Next(play),
             Err(error) => Turn::End(end_by_unprinted(err, &error)),
@@ -160,13 +189,14 @@ fn play_on<R: Files + AllocGlobal, I: Prompting, O: Sink, E: Write>(
 
 /// Plays a run by hand: that of the schedule in a file, or else one of one node that begins without events. Lines are heard
 /// from `input`, and answered on `out`.
-pub(crate) fn play_by_words<
-    R: Files + AllocGlobal,
-    L: FileReader,
-    I: Prompting,
-    O: Sink,
-    E: Write,
->(rt: &R, files: &mut L, file: Option<&str>, input: &mut I, out: &mut O, err: &mut E) -> u8
+pub(crate) fn play_by_words<R: Files + AllocGlobal, L: FileReader, I: Prompting, O: Sink, E: Write>(
+    rt: &R,
+    files: &mut L,
+    file: Option<&str>,
+    input: &mut I,
+    out: &mut O,
+    err: &mut E,
+) -> u8
     ensures front { IsFrontSaid (O.printing out.old) (O.printing out.new) }
     ensures quiet { result ≡ 0 → Keeps (E.contents err.old) (E.contents err.new) }
 {
