@@ -114,7 +114,7 @@ def unheard(explained):
 def judge(session, line, said, notes, old, new):
     """Whether a line did what it says: the schedule before it, and the one behind it."""
     words = line.split(" ")
-    is_taken_back = words[0] in ("undo", "back")
+    is_taken_back = words[0] in ("undo", "back") and line not in WRONG
     if is_taken_back:
         assert new == old[: len(new)], f"{line}: other lines are left"
         assert not said, f"{line}: the report has more lines: {said}"
@@ -125,7 +125,7 @@ def judge(session, line, said, notes, old, new):
     added = [event.rstrip("\n") for event in new[len(old) :]]
     if words[0] in DISK and not (line in WRONG):
         assert all(event in {f"{word} {words[1]}" for word in DISK[words[0]]} for event in added), f"{line}: added {added}"
-    elif words[0] == "deliver":
+    elif words[0] == "deliver" and line not in WRONG:
         sent = {sent.split()[1]: sent.split()[3] for sent in session.told if sent.startswith("send ")}
         wanted = [f"hear {sent[words[1]]} {words[1]}"] if words[1] in sent else []
         assert added == wanted, f"{line}: added {added}, not {wanted}"

@@ -13,7 +13,7 @@
 //! use rr_types::Nodes;
 //! use std::alloc::{AllocError, Global};
 //!
-//! /// What a run says that opens the disk of its first node.
+//! /// What is said where the disk of the first node is opened.
 //! pub fn opened(alloc: Global, nodes: Nodes) -> Result<Vec<u8>, AllocError> {
 //!     let play = Play::of_session(alloc, Session::new(alloc, nodes)?);
 //!     let answer = play.answer(alloc, b"open 0")?;
