@@ -140,6 +140,16 @@ TOUR = [
         ],
     ),
     (
+        "A run by hand",
+        "`rr play` plays each event that is typed. Lines that begin with four spaces are notes, and all others are the report's. The first claim "
+        "takes three lines. The second play does it step by step, asks what there is to do, takes a step back, and loses a message.",
+        [
+            "printf 'open 0\\nsubmit 0 7 1 claim a x\\nrun\\nsave claim.schedule\\n' | rr play; rr sim claim.schedule | tail -2",
+            "printf 'open 0\\nsubmit 0 7 1 claim a x\\nflush 0\\ndue\\nsend 0\\nwire\\ncrash? 0\\ndeliver 0\\nundo\\nlose 0\\nrun\\ntick 0\\nrun\\n' | rr play",
+            "printf 'opne 0\\nhear 0 9\\nwhy 37\\ntake 0\\nwhy 43\\n' | rr play examples/one_command.schedule | tail -7",
+        ],
+    ),
+    (
         "Counts, and a comparison",
         "`rr stats` counts what happens in a run. `rr check` compares its report with a text, and prints nothing if they are the same.",
         [

@@ -15,6 +15,7 @@ mod json;
 mod lively;
 mod model;
 mod node;
+mod play;
 mod printing;
 mod registry;
 mod shell;

@@ -4,8 +4,8 @@ ghost use Rattle.std.specs.Prelude.{◌≡◌, ◌<◌, IfSome};
 
 use crate::printing::{print, print_begin, print_text};
 use crate::{
-    account, disk, draw, explain, folders, frame, journal, json, lively, node, registry, shell,
-    state, stream, text, types, window, words,
+    account, disk, draw, explain, folders, frame, journal, json, lively, node, play, registry,
+    shell, state, stream, text, types, window, words,
 };
 use rr_disk::MemDisk;
 use rr_journal::Journal;
@@ -127,6 +127,12 @@ pub fn show_runs(rt: &HostRuntime) {
             "rr_lively",
             lively::drawn(alloc, nodes, progress).ok(),
             "nodes 3",
+        );
+        print_begin(
+            rt,
+            "rr_play",
+            play::opened(alloc, nodes).ok(),
+            "restart 0 0 0\n    lines 2 to 11: ",
         );
     }
 }

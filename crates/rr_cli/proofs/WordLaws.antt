@@ -3,7 +3,7 @@ use Rattle.std.proofs.Common.{◌≡◌, Bool, [], Option, subst}
 use Rattle.clap.specs.Words.{Text}
 use Rattle.clap.specs.Kinds.{Kinds, IsAmong}
 use Rattle.clap.specs.declared.error.kind.ErrorKind.{ErrorKind}
-use Rattle.rr_words.specs.Tasks.{CutWords, RandomWords, ShellWords, View, Simulate, Viewing, Show, Random, Audit, Run, Shell, Sweep, Draw, Migrate, Verify, Export}
+use Rattle.rr_words.specs.Tasks.{CutWords, RandomWords, ShellWords, View, Simulate, Viewing, Show, Random, Audit, Run, Shell, Play, Sweep, Draw, Migrate, Verify, Export}
 use Rattle.rr_words.specs.declared.tasks.Exported.{Exported}
 use Rattle.rr_words.specs.declared.tasks.Form.{Form}
 
@@ -28,6 +28,9 @@ no_run nodes dir script tape tick form view is = absurd cc
 
 pub no_shell : (words : ShellWords) (view : View) → Shell words ≡ Viewing view → ⊥
 no_shell words view is = absurd cc
+
+pub no_play : (file : Option Text) (view : View) → Play file ≡ Viewing view → ⊥
+no_play file view is = absurd cc
 
 pub no_sweep : (file seed : Option Text) (view : View) → Sweep file seed ≡ Viewing view → ⊥
 no_sweep file seed view is = absurd cc

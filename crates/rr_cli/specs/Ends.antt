@@ -34,7 +34,7 @@ use Rattle.rr_cli.specs.RandomObjects.{IsDrawnIn}
 use Rattle.rr_cli.specs.Cuts.{IsCutBy, shows_nothing}
 use Rattle.rr_lively.specs.declared.finish.Ending.{Ending}
 use Rattle.rr_cli.specs.Finishing.{finished_by, IsFinishedDraw}
-use Rattle.rr_words.specs.Tasks.{CutWords, RandomWords, ShellWords, View, Task, Simulate, Viewing, Show, Random, Audit, Run, Shell, Sweep, Draw, Migrate, Verify, Export}
+use Rattle.rr_words.specs.Tasks.{CutWords, RandomWords, ShellWords, View, Task, Simulate, Viewing, Show, Random, Audit, Run, Shell, Play, Sweep, Draw, Migrate, Verify, Export}
 use Rattle.rr_words.specs.declared.tasks.Exported.{Exported}
 use Rattle.rr_words.specs.declared.tasks.Form.{Form}
 use Rattle.rr_words.specs.declared.tasks.Form.TheVariants.{Plain, Json}
@@ -360,4 +360,6 @@ pub data EndsBy (faults : Kinds) (task : Task) (from to : Readable) (status : �
       → status ≡ 2 → new ≡ old
       → EndsBy faults task from to status old new
   without_shell : (words : ShellWords) → faults ≡ [] → task ≡ Shell words → status ≡ 2 → new ≡ old
+      → EndsBy faults task from to status old new
+  without_play : (file : Option Text) → faults ≡ [] → task ≡ Play file → status ≡ 2 → new ≡ old
       → EndsBy faults task from to status old new

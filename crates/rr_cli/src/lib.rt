@@ -1,4 +1,4 @@
-//! The commands of `rr`, except `rr run` and `rr shell` (`rr_run`). `run` takes the words and the streams of a program, and gives
+//! The commands of `rr`, except `rr run`, `rr shell` and `rr play` (`rr_run`). `run` takes the words and the streams of a program, and gives
 //! its exit status. `execute` does it for words that could be read: `read_words` names the task, and a module here does it.
 //! `execute_with_views` does so with views of the run of a schedule too: `rr sim --explain`, `--json` and `--finish`, `rr stats`,
 //! `rr check`; and with those of a tape: `rr audit --explain`, `rr stats`. A text that is a schedule or a tape is told by itself

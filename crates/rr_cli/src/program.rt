@@ -18,8 +18,8 @@ use crate::random_schedule::random_by_words;
 use crate::refusals::{TextKind, end_by_fault};
 use crate::show::{end_without_folder, show_folder};
 use crate::streams::{
-    end_by_stream, end_by_text, end_without_shell, end_without_threads, end_without_views,
-    end_without_words,
+    end_by_stream, end_by_text, end_without_play, end_without_shell, end_without_threads,
+    end_without_views, end_without_words,
 };
 use crate::sweep::{end_without_seed, sweep_by_word, sweep_file};
 use crate::verification::verify_by_word;
@@ -133,6 +133,7 @@ where
         Ok(Task::View(_)) => end_without_views(err),
         Ok(Task::Run(_, _, _, _, _, _)) => end_without_threads(err),
         Ok(Task::Shell(_)) => end_without_shell(err),
+        Ok(Task::Play(_)) => end_without_play(err),
         Ok(Task::Sweep(_, None)) => end_without_seed(err),
         Ok(Task::Sweep(None, Some(seed))) => sweep_by_word(rt.alloc(), seed, input, out, err),
         Ok(Task::Sweep(Some(path), Some(seed))) => {

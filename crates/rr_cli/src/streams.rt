@@ -84,3 +84,11 @@ pub(crate) fn end_without_shell<E: Write>(err: &mut E) -> u8
     let _ = writeln!(err, "rr: shell: there are no threads");
     2
 }
+
+// Ends because a program that hears no lines is asked for a play.
+pub(crate) fn end_without_play<E: Write>(err: &mut E) -> u8
+    ensures { result ≡ 2 }
+{
+    let _ = writeln!(err, "rr: play: no lines are heard");
+    2
+}

@@ -47,6 +47,7 @@ where
         Ok(Task::Audit(_, _)) => execute(rt, words, files, input, out, err),
         Ok(Task::Run(_, _, _, _, _, _)) => execute(rt, words, files, input, out, err),
         Ok(Task::Shell(_)) => execute(rt, words, files, input, out, err),
+        Ok(Task::Play(_)) => execute(rt, words, files, input, out, err),
         Ok(Task::Sweep(_, _)) => execute(rt, words, files, input, out, err),
         Ok(Task::Draw(_, _)) => execute(rt, words, files, input, out, err),
         Ok(Task::Migrate(_, _, _)) => execute(rt, words, files, input, out, err),

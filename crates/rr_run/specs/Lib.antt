@@ -6,6 +6,7 @@ pub mod Endings
 pub mod Hints
 pub mod News
 pub mod Numbers
+pub mod Plays
 pub mod Questions
 pub mod Runs
 pub mod Shells

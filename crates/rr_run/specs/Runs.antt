@@ -10,10 +10,11 @@ use Rattle.rr_text.specs.declared.answer.Answer.{Answer}
 use Rattle.rr_text.specs.Scripted.{Scripted, IsScript}
 use Rattle.rr_text.specs.ScriptTexts.{script_text}
 use Rattle.rr_text.specs.Faults.{IsScriptFault}
+use Rattle.rr_shell.specs.Watches.{IsFrontSaid}
 use Rattle.rr_cli.specs.Randoms.{IsNumberIn}
 use Rattle.rr_cli.specs.Ends.{EndsOnInput, IsStreamStatus, Prints}
 use Rattle.rr_cli.specs.Views.{EndsWithViews}
-use Rattle.rr_words.specs.Tasks.{ShellWords, Task, Run, Shell}
+use Rattle.rr_words.specs.Tasks.{ShellWords, Task, Run, Shell, Play}
 use Rattle.rr_cli.specs.Refusals.{status_of}
 use Rattle.rr_words.specs.declared.tasks.Form.{Form}
 use Rattle.rr_run.specs.AnswerObjects.{answers_in}
@@ -60,17 +61,19 @@ pub record AsksForRun (task : Task) : Type 0 where
   pub form : Form
   pub is : task ≡ Run (Some nodes) (Some dir) (Some script) tape tick form
 
--- whether words ask for nodes in threads, and say all that has to be said of them
+-- whether words ask for nodes in threads, and say all that has to be said of them; or for a play by hand
 abbrev pub AsksForThreads : Task → Type 0
 AsksForThreads (Run (Some nodes) (Some dir) (Some script) tape tick form) = Unit {0}
 AsksForThreads (Shell words) = Unit {0}
+AsksForThreads (Play file) = Unit {0}
 AsksForThreads task = ⊥
 
--- the program with threads, by words: a run, or a shell, or what the program without threads does, or no memory even to read them
+-- the program with threads, by words: a run, or a shell, or a play by hand, by which a front of some text is printed; or what the program without threads does, or no memory even to read them
 pub data EndsWithThreads (faults : Kinds) (task : Task) (from to : Readable) (status : ℕ) (old new : Printing) : Type 0 where
   by_script : (asks : AsksForRun task) → faults ≡ [] → EndsOnRun asks.form asks.nodes asks.script asks.tape from to status old new
       → EndsWithThreads faults task from to status old new
   by_shell : (words : ShellWords) → task ≡ Shell words → faults ≡ [] → EndsOnShellWords words from.input to.input status old new
       → EndsWithThreads faults task from to status old new
+  by_play : (file : Option Text) → task ≡ Play file → faults ≡ [] → IsFrontSaid old new → EndsWithThreads faults task from to status old new
   by_others : (faults ≡ [] → AsksForThreads task → ⊥) → EndsWithViews faults task from to status old new → EndsWithThreads faults task from to status old new
   out_of_memory : status ≡ 6 → new ≡ old → EndsWithThreads faults task from to status old new

@@ -1,5 +1,5 @@
-//! `rr run` and `rr shell`: nodes in threads, over the files of folders, by a script or by lines as they come. This crate alone
-//! brings threads to the program. `run` takes the words and streams of `main`. It passes every other command to `rr_cli`.
+//! `rr run` and `rr shell`: nodes in threads, over the files of folders, by a script or by lines as they come; and `rr play`, which
+//! answers lines too. This crate alone brings threads to the program. `run` takes the words and streams of `main`. It passes every other command to `rr_cli`.
 //!
 //! # Example
 //!
@@ -48,6 +48,7 @@ mod defaults;
 mod ending;
 mod failures;
 mod news;
+mod playing;
 mod post;
 mod program;
 mod reused;

@@ -7,6 +7,7 @@ ghost use Rattle.rr_words.specs.Tasks.{faults_of, task_of};
 ghost use Rattle.rr_run.specs.Runs.{EndsWithThreads};
 ghost use Rattle.rr_run.specs.Telling.{IsQuiet};
 
+use crate::playing::play_by_words;
 use crate::script_run::run_by_words;
 use crate::shell_run::shell_by_words;
 use rr_cli::{Task, end_by_words, end_without_words, read_words};
@@ -24,7 +25,7 @@ use std::thread::Threads;
 use std::time::Clock;
 
 /// Runs the program `rr` by these words, the first of which is its name, and gives its exit status. It is
-/// `rr_cli::execute_with_views` with two more commands.
+/// `rr_cli::execute_with_views` with three more commands.
 ///
 /// `rr run --nodes NODES --dir DIR --script SCRIPT [--tape TAPE] [--tick MILLISECONDS] [--json]` reads a script from the file SCRIPT, or from
 /// `input` where SCRIPT is `-`. It runs that many nodes in threads, node P over the disk in the folder DIR/P, and prints the answers to the
@@ -37,6 +38,9 @@ use std::time::Clock;
 /// way, and reads commands from `input`, or else answers each LINE. A line is answered on `out` before the next is read, in words
 /// or with JSON. Where somebody types, `input` shows a prompt before each. With `--strict` it ends at the first line that isn't
 /// answered as asked. What goes wrong is told on `err`: the words, then the folders, ascending, then the file DIR/requests, then the run or a stream.
+///
+/// `rr play [FILE]` plays a run by hand, event by event, that of the schedule in FILE or one without events. It reads events, short
+/// forms and questions from `input`, and answers each line on `out` before the next is read.
 pub fn execute<
     F: Read + Write + Seek + FileExt + OpenFile + Drop + Send + Lockable,
     R: Files<File = F> + AllocGlobal + Threads + Wait + Clock + Sync + MarkWriter,
@@ -69,6 +73,7 @@ where
             rt, words, files, input, out, err,
         ),
         Ok(Task::Shell(asked)) => shell_by_words(rt, &asked, input, out, err),
+        Ok(Task::Play(file)) => play_by_words(rt, files, file, input, out, err),
         Ok(Task::View(_)) => rr_cli::execute_with_views(rt, words, files, input, out, err),
         Ok(Task::Simulate(_)) => rr_cli::execute_with_views(rt, words, files, input, out, err),
         Ok(Task::Show(_, _)) => rr_cli::execute_with_views(rt, words, files, input, out, err),

@@ -75,6 +75,10 @@ stats_line =
     (flag_rule (codes "JSON") (codes "json")))
     (flag_rule (codes "TAPE") (codes "tape"))
 
+-- the subcommand play, with a FILE, which may be left out
+unfoldable pub play_line : App
+play_line = with_arg (new_app (codes "play")) (word_rule (codes "FILE") false)
+
 -- the subcommand check, with a FILE and a REPORT
 unfoldable pub check_line : App
 check_line = with_arg (with_arg (new_app (codes "check")) (word_rule (codes "FILE") true)) (word_rule (codes "REPORT") true)
@@ -198,8 +202,8 @@ and_also above below = with_subcommand above below.top
 -- the command line of rr with the subcommands on schedules
 unfoldable pub schedule_lines : App
 schedule_lines =
-    and_also (and_also (and_also (and_also (and_also (and_also (rr_settings (new_app (codes "rr")))
-    sim_line) stats_line) check_line) random_line) sweep_line) draw_line
+    and_also (and_also (and_also (and_also (and_also (and_also (and_also (rr_settings (new_app (codes "rr")))
+    sim_line) stats_line) check_line) random_line) sweep_line) draw_line) play_line
 
 -- the command line of rr
 unfoldable pub rr_line : App

@@ -79,7 +79,8 @@ pub data View : Type 0 where
 -- what a command asks for: the report of the schedule in this file or else in standard input; or a view of its run; or the areas
 -- of the disk in this folder; or a random schedule by these words; or the audit of the tape in this file or else in standard
 -- input; or a run of this number of nodes in threads, over the folders in this folder, by the script in this file, with its tape
--- in this file or none, so many milliseconds between two ticks, and answers in this form; or a shell by these words; or a sweep
+-- in this file or none, so many milliseconds between two ticks, and answers in this form; or a shell by these words; or a run by hand, of the schedule in
+-- this file or else without events; or a sweep
 -- of the schedule in this file or else in standard input, with this seed, which only wrong words leave out; or the picture of the
 -- schedule in this file or else in standard input, of the cut that these words write; or an opening of the disk in this folder as
 -- that of this node of so many, all of which only wrong words leave out, and its areas then; or whether the folders in this
@@ -92,6 +93,7 @@ pub data Task : Type 0 where
   Audit : Option Text → Form → Task
   Run : Option Text → Option Text → Option Text → Option Text → Option Text → Form → Task
   Shell : ShellWords → Task
+  Play : Option Text → Task
   Sweep : Option Text → Option Text → Task
   Draw : Option Text → CutWords → Task
   Migrate : Option Text → Option Text → Option Text → Task
@@ -146,7 +148,7 @@ told_task rows =
     if is_set (codes "EXPLAIN") rows then Viewing (Explanation (form_of rows) (file_of (first_of (codes "FILE") rows)))
     else told_by (form_of rows) (file_of (first_of (codes "FILE") rows))
 
--- what sim, stats, audit, check, random, run, shell, sweep, draw, migrate, verify and export ask for
+-- what sim, stats, audit, check, random, run, shell, play, sweep, draw, migrate, verify and export ask for
 abbrev pub simulate_task : List Row → Task
 simulate_task rows =
     if is_set (codes "FINISH") rows || is_set (codes "ALONE") rows then Viewing (Finish (finish_view rows) (file_of (first_of (codes "FILE") rows)))
@@ -195,6 +197,9 @@ shell_task rows =
       json = is_set (codes "JSON") rows;
     })
 
+abbrev pub play_task : List Row → Task
+play_task rows = Play (file_of (first_of (codes "FILE") rows))
+
 abbrev pub sweep_task : List Row → Task
 sweep_task rows = Sweep (file_of (first_of (codes "FILE") rows)) (first_of (codes "SEED") rows)
 
@@ -234,7 +239,8 @@ other_task_by p =
     else (if bytes_eq p.0 (codes "migrate") then migrate_task p.1
     else (if bytes_eq p.0 (codes "verify") then verify_task p.1
     else (if bytes_eq p.0 (codes "export") then export_task p.1
-    else simulate_task p.1))))))))))
+    else (if bytes_eq p.0 (codes "play") then play_task p.1
+    else simulate_task p.1)))))))))))
 
 -- what a subcommand of this name and these arguments asks for
 abbrev pub task_by : Text × List Row → Task
@@ -305,6 +311,7 @@ task_in (read.Run nodes dir script tape tick form) =
     Run (option_map (λ s. s.now) nodes) (option_map (λ s. s.now) dir) (option_map (λ s. s.now) script)
     (option_map (λ s. s.now) tape) (option_map (λ s. s.now) tick) form
 task_in (read.Shell words) = Shell (shell_words_in words)
+task_in (read.Play file) = Play (option_map (λ s. s.now) file)
 task_in (read.Sweep file seed) = Sweep (option_map (λ s. s.now) file) (option_map (λ s. s.now) seed)
 task_in (read.Draw file words) = Draw (option_map (λ s. s.now) file) (cut_words_in words)
 task_in (read.Migrate folder node nodes) = Migrate (option_map (λ s. s.now) folder) (option_map (λ s. s.now) node) (option_map (λ s. s.now) nodes)

@@ -235,6 +235,22 @@ Examples:
   printf 'claim printer room-4\\nlook printer\\n' | rr shell --nodes 3 --dir /tmp/nodes --client 7"
 }
 
+/// The help of `rr play`.
+pub(crate) fn play<'a>() -> &'a str {
+    "\
+Each line of standard input is an event of a schedule, which is played at once, a short form or a question; `help` there lists
+them. A line of the answer that begins with four spaces is a note; all others are those that the report of `rr sim` has. With
+FILE the events of that schedule are played first. `nodes N` begins with N nodes instead of one, before the first event.
+
+`open P` opens the disk of a node, `flush P` does what is due at its disk, `deliver K` gives message K to its addressee, and
+`run` does all that is due until nothing is. `undo` and `back LINE` take events back. `save FILE` writes the schedule.
+
+Examples:
+  rr play
+  printf 'open 0\\nsubmit 0 7 1 claim a x\\nrun\\nsave /tmp/claim.schedule\\n' | rr play
+  rr play examples/suspected_coordinator.schedule"
+}
+
 /// The help of `rr sweep`.
 pub(crate) fn sweep<'a>() -> &'a str {
     "\

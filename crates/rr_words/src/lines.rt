@@ -2,7 +2,7 @@
 
 ghost use Rattle.std.specs.Prelude.{◌≡◌, IfOk, codes};
 ghost use Rattle.clap.specs.Words.{App, app_of, new_app};
-ghost use Rattle.rr_words.specs.Lines.{IsArg, IsLine, and_also, rr_line, schedule_lines, rr_settings, with_version, named_rule, told_line, sim_line, stats_line, check_line, show_line, migrate_line, word_rule, number_rule, option_rule, optional_number_rule, flag_rule, tick_rule, numbers_line, random_line, audit_line, run_line, lines_rule, asking_line, shell_line, sweep_line, draw_line, verify_line, export_line};
+ghost use Rattle.rr_words.specs.Lines.{IsArg, IsLine, and_also, rr_line, schedule_lines, rr_settings, with_version, named_rule, told_line, sim_line, stats_line, check_line, show_line, migrate_line, word_rule, number_rule, option_rule, optional_number_rule, flag_rule, tick_rule, numbers_line, random_line, audit_line, run_line, lines_rule, asking_line, shell_line, sweep_line, draw_line, verify_line, export_line, play_line};
 
 use crate::helps;
 use clap::builder::ValueParser;
@@ -49,7 +49,8 @@ fn schedule_lines<'a>(alloc: Global) -> Result<Command<'a>, AllocError>
     let line = with_line(line, check_line(alloc))?;
     let line = with_line(line, random_line(alloc))?;
     let line = with_line(line, sweep_line(alloc))?;
-    with_line(line, draw_line(alloc))
+    let line = with_line(line, draw_line(alloc))?;
+    with_line(line, play_line(alloc))
 }
 
 // The command line with one more subcommand. Where it ends early, this function drops the line. A caller has nothing to
@@ -221,6 +222,24 @@ fn stats_line<'a>(alloc: Global) -> Result<Command<'a>, AllocError>
     .arg(word_arg(alloc, "FILE", helps::recorded(), false))?
     .arg(flag_arg(alloc, "JSON", "json", "Prints an object of JSON"))?
     .arg(flag_arg(alloc, "TAPE", "tape", helps::as_tape()))
+}
+
+// The command line of `rr play`.
+fn play_line<'a>(alloc: Global) -> Result<Command<'a>, AllocError>
+    ensures { IfOk result (IsLine play_line) }
+{
+    bare_line(
+        alloc,
+        "play",
+        "Plays a run by hand, event by event",
+        helps::play(),
+    )
+    .arg(word_arg(
+        alloc,
+        "FILE",
+        "The schedule that it goes on from; else it begins with one node that is down",
+        false,
+    ))
 }
 
 // The command line of `rr check`.

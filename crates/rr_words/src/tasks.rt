@@ -2,7 +2,7 @@
 
 ghost use Rattle.std.specs.Prelude.{◌≡◌, [], IfOk, map, option_map, unwrap_or};
 ghost use Rattle.clap.specs.Words.{all_of, first_of, found_of, rows_of};
-ghost use Rattle.rr_words.specs.Tasks.{file_of, is_set, form_of, cut_words_of, cut_words_in, finish_view, simulate_task, told_task, stats_task, audit_task, check_task, random_task, run_task, shell_task, sweep_task, draw_task, migrate_task, other_task_by, task_by, task_in, verify_task, exported, export_task};
+ghost use Rattle.rr_words.specs.Tasks.{file_of, is_set, form_of, cut_words_of, cut_words_in, finish_view, simulate_task, told_task, stats_task, audit_task, check_task, random_task, run_task, shell_task, sweep_task, draw_task, migrate_task, other_task_by, task_by, task_in, verify_task, exported, export_task, play_task};
 
 use clap::ArgMatches;
 use std::alloc::{AllocError, Global};
@@ -140,6 +140,8 @@ pub enum Task<'a> {
     /// `rr shell [--nodes NODES] [--dir DIR] [--client CLIENT] [--tick MILLISECONDS] [-c LINE].. [--strict] [--json]`: a run of nodes in threads, whom
     /// these lines or those of standard input ask as this client.
     Shell(ShellWords<'a>),
+    /// `rr play [FILE]`: a run by hand, that of the schedule in this file, or else one without events.
+    Play(Option<&'a str>),
     /// `rr sweep [FILE] --seed SEED`: what a node restarts with after a crash behind each device call of the schedule in
     /// this file, or else in standard input; with the seed of the words of the last ending.
     Sweep(Option<&'a str>, Option<&'a str>),
@@ -349,6 +351,13 @@ fn shell_task<'a>(alloc: Global, matches: &ArgMatches<'a>) -> Result<Task<'a>, A
     }))
 }
 
+// What `rr play` is asked for.
+fn play_task<'a>(matches: &ArgMatches<'a>) -> Task<'a>
+    ensures { task_in result ≡ play_task (rows_of (found_of matches.now)) }
+{
+    Task::Play(file_of(word_of(matches, "FILE")))
+}
+
 // What `rr sweep` is asked for.
 fn sweep_task<'a>(matches: &ArgMatches<'a>) -> Task<'a>
     ensures { task_in result ≡ sweep_task (rows_of (found_of matches.now)) }
@@ -426,6 +435,8 @@ fn other_task<'a>(name: &str, matches: &ArgMatches<'a>) -> Task<'a>
         verify_task(matches)
     } else if name == "export" {
         export_task(matches)
+    } else if name == "play" {
+        play_task(matches)
     } else {
         simulate_task(matches)
     }

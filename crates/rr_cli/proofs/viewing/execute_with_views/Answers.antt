@@ -1,10 +1,10 @@
 use Rattle.std.proofs.Common.{◌≡◌, ◌∙◌, ℕ, List, Option, option_map, Bor, sym, ap, map, inl, inr}
 use Rattle.clap.specs.Words.{Text, kind_of}
-use Rattle.rr_words.specs.Tasks.{Simulate, Viewing, Show, Random, Audit, Run, Shell, Sweep, Draw, Migrate, cut_words_in, random_words_in, shell_words_in, task_of, task_in, view_in, Verify, Export}
+use Rattle.rr_words.specs.Tasks.{Simulate, Viewing, Show, Random, Audit, Run, Shell, Play, Sweep, Draw, Migrate, cut_words_in, random_words_in, shell_words_in, task_of, task_in, view_in, Verify, Export}
 use Rattle.rr_cli.specs.Ends.{mistaken, by_help, by_version}
 use Rattle.rr_cli.proofs.EndLemmas.{kind_cases}
 use Rattle.rr_cli.specs.Views.{by_view, by_others, out_of_memory}
-use Rattle.rr_cli.proofs.WordLaws.{none_among, no_simulate, no_show, no_random, no_audit, no_run, no_shell, no_sweep, no_draw, no_migrate, no_verify, no_export}
+use Rattle.rr_cli.proofs.WordLaws.{none_among, no_simulate, no_show, no_random, no_audit, no_run, no_shell, no_play, no_sweep, no_draw, no_migrate, no_verify, no_export}
 use Rattle.rr_cli.proofs.viewing.execute_with_views.Goals as goal
 
 -- the text of a word
@@ -64,6 +64,12 @@ returns-in-Ok-Shell-clause-ends g c =
     let w = c.in-Ok-Shell in
     let task : task_of (map g.S.AsStr.text c.args.words.now) ≡ Shell (shell_words_in w.field-0-0) = sym w.ensures.task ∙ ap task_in w.field-0-is in
     by_others (λ none view is. no_shell (shell_words_in w.field-0-0) view (sym task ∙ is)) c.execute-in-Ok-Shell.ensures.ends
+
+pub returns-in-Ok-Play-clause-ends : goal.returns-in-Ok-Play-clause-ends
+returns-in-Ok-Play-clause-ends g c =
+    let w = c.in-Ok-Play in
+    let task : task_of (map g.S.AsStr.text c.args.words.now) ≡ Play (text_of w.field-0-0) = sym w.ensures.task ∙ ap task_in w.field-0-is in
+    by_others (λ none view is. no_play (text_of w.field-0-0) view (sym task ∙ is)) c.execute-in-Ok-Play.ensures.ends
 
 pub returns-in-Ok-Sweep-clause-ends : goal.returns-in-Ok-Sweep-clause-ends
 returns-in-Ok-Sweep-clause-ends g c =

@@ -4,11 +4,11 @@ use Rattle.clap.specs.Kinds.{Kinds, IsAmong}
 use Rattle.clap.specs.declared.error.kind.ErrorKind.{ErrorKind}
 use Rattle.rr_words.specs.declared.tasks.Form.{Form}
 use Rattle.rr_words.specs.declared.tasks.Task.TheVariants as read
-use Rattle.rr_words.specs.Tasks.{Simulate, Viewing, Show, Random, Audit, Run, Shell, Sweep, Draw, Migrate, cut_words_in, random_words_in, shell_words_in, view_in, task_of, task_in, Verify, Export}
+use Rattle.rr_words.specs.Tasks.{Simulate, Viewing, Show, Random, Audit, Run, Shell, Play, Sweep, Draw, Migrate, cut_words_in, random_words_in, shell_words_in, view_in, task_of, task_in, Verify, Export}
 use Rattle.rr_cli.specs.Ends.{mistaken, by_help, by_version}
 use Rattle.rr_cli.proofs.EndLemmas.{kind_cases}
 use Rattle.rr_cli.specs.Views as views
-use Rattle.rr_run.specs.Runs.{AsksForThreads, by_script, by_shell, by_others, out_of_memory}
+use Rattle.rr_run.specs.Runs.{AsksForThreads, by_script, by_shell, by_play, by_others, out_of_memory}
 use Rattle.rr_run.specs.Telling.{silent, told}
 use Rattle.rr_run.proofs.program.execute.Goals as goal
 
@@ -75,6 +75,12 @@ returns-in-Ok-Shell-clause-ends g c =
     let w = c.in-Ok-Shell in
     let task : task_of (map g.S.AsStr.text c.args.words.now) ≡ Shell (shell_words_in w.asked) = sym w.ensures.task ∙ ap task_in w.field-0-is in
     by_shell (shell_words_in w.asked) task w.ensures.faults c.shell_by_words.ensures.ends
+
+pub returns-in-Ok-Play-clause-ends : goal.returns-in-Ok-Play-clause-ends
+returns-in-Ok-Play-clause-ends g c =
+    let w = c.in-Ok-Play in
+    let task : task_of (map g.S.AsStr.text c.args.words.now) ≡ Play (text_of w.file) = sym w.ensures.task ∙ ap task_in w.field-0-is in
+    by_play (text_of w.file) task w.ensures.faults c.play_by_words.ensures.front
 
 pub returns-in-Ok-Simulate-clause-ends : goal.returns-in-Ok-Simulate-clause-ends
 returns-in-Ok-Simulate-clause-ends g c =
@@ -156,6 +162,9 @@ returns-in-Ok-Run-default-default-None-default-default-default-clause-quiet g c 
 
 pub returns-in-Ok-Shell-clause-quiet : goal.returns-in-Ok-Shell-clause-quiet
 returns-in-Ok-Shell-clause-quiet g c = λ ended. silent (c.shell_by_words.ensures.quiet ended)
+
+pub returns-in-Ok-Play-clause-quiet : goal.returns-in-Ok-Play-clause-quiet
+returns-in-Ok-Play-clause-quiet g c = λ ended. silent (c.play_by_words.ensures.quiet ended)
 
 pub returns-in-Ok-Simulate-clause-quiet : goal.returns-in-Ok-Simulate-clause-quiet
 returns-in-Ok-Simulate-clause-quiet g c = λ ended. silent (c.execute_with_views-in-Ok-Simulate.ensures.quiet ended)
