@@ -219,11 +219,11 @@ exported_by true false = export.List
 exported_by false true = export.Names
 exported_by true true = export.Commands
 
-abbrev pub exported : List Row → Exported
-exported rows = exported_by (is_set (codes "LIST") rows) (is_set (codes "JSON") rows)
+abbrev pub export_of : List Row → Exported
+export_of rows = exported_by (is_set (codes "LIST") rows) (is_set (codes "JSON") rows)
 
 abbrev pub export_task : List Row → Task
-export_task rows = Export (first_of (codes "DIR") rows) (exported rows)
+export_task rows = Export (first_of (codes "DIR") rows) (export_of rows)
 
 -- what a subcommand of this name and these arguments asks for, other than shell
 abbrev pub other_task_by : Text × List Row → Task

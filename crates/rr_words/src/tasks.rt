@@ -2,7 +2,7 @@
 
 ghost use Rattle.std.specs.Prelude.{◌≡◌, [], IfOk, map, option_map, unwrap_or};
 ghost use Rattle.clap.specs.Words.{all_of, first_of, found_of, rows_of};
-ghost use Rattle.rr_words.specs.Tasks.{file_of, is_set, form_of, cut_words_of, cut_words_in, finish_view, simulate_task, told_task, stats_task, audit_task, check_task, random_task, run_task, shell_task, sweep_task, draw_task, migrate_task, other_task_by, task_by, task_in, verify_task, exported, export_task, play_task};
+ghost use Rattle.rr_words.specs.Tasks.{file_of, is_set, form_of, cut_words_of, cut_words_in, finish_view, simulate_task, told_task, stats_task, audit_task, check_task, random_task, run_task, shell_task, sweep_task, draw_task, migrate_task, other_task_by, task_by, task_in, verify_task, export_of, export_task, play_task};
 
 use clap::ArgMatches;
 use std::alloc::{AllocError, Global};
@@ -391,8 +391,8 @@ fn verify_task<'a>(matches: &ArgMatches<'a>) -> Task<'a>
 }
 
 // What is exported.
-fn exported(matches: &ArgMatches<'_>) -> Exported
-    ensures { result ≡ exported (rows_of (found_of matches.now)) }
+fn export_of(matches: &ArgMatches<'_>) -> Exported
+    ensures { result ≡ export_of (rows_of (found_of matches.now)) }
 {
     match (is_set(matches, "LIST"), is_set(matches, "JSON")) {
         (false, false) => Exported::Claims,
@@ -406,7 +406,7 @@ fn exported(matches: &ArgMatches<'_>) -> Exported
 fn export_task<'a>(matches: &ArgMatches<'a>) -> Task<'a>
     ensures { task_in result ≡ export_task (rows_of (found_of matches.now)) }
 {
-    Task::Export(word_of(matches, "DIR"), exported(matches))
+    Task::Export(word_of(matches, "DIR"), export_of(matches))
 }
 
 // What a subcommand of this name, other than `shell`, is asked for.
