@@ -146,7 +146,7 @@ TOUR = [
         [
             "printf 'open 0\\nsubmit 0 7 1 claim a x\\nrun\\nsave claim.schedule\\n' | rr play; rr sim claim.schedule | tail -2",
             "printf 'open 0\\nsubmit 0 7 1 claim a x\\nflush 0\\ndue\\nsend 0\\nwire\\ncrash? 0\\ndeliver 0\\nundo\\nlose 0\\nrun\\ntick 0\\nrun\\n' | rr play",
-            "printf 'opne 0\\nhear 0 9\\nwhy 37\\ntake 0\\nwhy 43\\n' | rr play examples/one_command.schedule | tail -7",
+            "printf 'opne 0\\nhear 0 9\\nwhy 44\\ntake 0\\nwhy 45\\nwhy 43\\n' | rr play examples/one_command.schedule | tail -8",
         ],
     ),
     (

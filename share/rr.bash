@@ -2,7 +2,7 @@
 _rr() {
   local current=$2 before=$3 words takes=nothing
   if [ "$COMP_CWORD" = 1 ]; then
-    COMPREPLY=($(compgen -W 'sim stats check random sweep draw run shell audit show verify export migrate help -h --help -V --version' -- "$current"))
+    COMPREPLY=($(compgen -W 'sim stats check random sweep draw play run shell audit show verify export migrate help -h --help -V --version' -- "$current"))
     return
   fi
   case ${COMP_WORDS[1]} in
@@ -12,6 +12,7 @@ _rr() {
     random) words='--seed --steps --nodes --lively --faults --finish --schedule-only --json -h --help'; takes=nothing ;;
     sweep) words='--seed -h --help'; takes=files ;;
     draw) words='--from --to --node --instance --requests --tape --html -h --help'; takes=files ;;
+    play) words='-h --help'; takes=files ;;
     run) words='--nodes --dir --script --tape --tick --json -h --help'; takes=nothing ;;
     shell) words='--nodes --dir --client -c --command --tick --strict --json -h --help'; takes=nothing ;;
     audit) words='--explain --json -h --help'; takes=files ;;
@@ -45,7 +46,7 @@ _rr() {
     shell:-c) takes=nothing; words= ;;
     sweep:--seed) takes=nothing; words= ;;
   esac
-  [ $takes != commands ] || words='sim stats check random sweep draw run shell audit show verify export migrate help'
+  [ $takes != commands ] || words='sim stats check random sweep draw play run shell audit show verify export migrate help'
   COMPREPLY=($(compgen -W "$words" -- "$current"))
   case $current:$takes in
     -*) ;;

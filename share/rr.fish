@@ -42,6 +42,9 @@ for program in rr rr-unproved
   complete -c $program -n '__fish_seen_subcommand_from draw' -l html -d 'Prints a page for a browser, with the picture'
   complete -c $program -n '__fish_seen_subcommand_from draw' -s h -l help -d 'Print help'
   complete -c $program -n '__fish_seen_subcommand_from draw' -F
+  complete -c $program -n __fish_use_subcommand -a play -d 'Plays a run by hand, event by event'
+  complete -c $program -n '__fish_seen_subcommand_from play' -s h -l help -d 'Print help'
+  complete -c $program -n '__fish_seen_subcommand_from play' -F
   complete -c $program -n __fish_use_subcommand -a run -d 'Runs nodes in threads over folders, and prints the answers to a script'
   complete -c $program -n '__fish_seen_subcommand_from run' -l nodes -x -d 'How many nodes there are'
   complete -c $program -n '__fish_seen_subcommand_from run' -l dir -xa '(__fish_complete_directories)' -d 'The folder of the nodes\' folders'
@@ -83,5 +86,5 @@ for program in rr rr-unproved
   complete -c $program -n '__fish_seen_subcommand_from migrate' -s h -l help -d 'Print help'
   complete -c $program -n '__fish_seen_subcommand_from migrate' -a '(__fish_complete_directories)'
   complete -c $program -n __fish_use_subcommand -a help -d 'Print this message or the help of the given subcommand(s)'
-  complete -c $program -n '__fish_seen_subcommand_from help' -a 'sim stats check random sweep draw run shell audit show verify export migrate help'
+  complete -c $program -n '__fish_seen_subcommand_from help' -a 'sim stats check random sweep draw play run shell audit show verify export migrate help'
 end

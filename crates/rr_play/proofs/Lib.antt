@@ -1,1 +1,2 @@
+mod NoteLaws
 mod PlayLaws

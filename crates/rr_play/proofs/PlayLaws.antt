@@ -6,7 +6,6 @@ use Rattle.std.proofs.lemmas.List.{append_assoc, append-nil, length-append, take
 use Rattle.std.proofs.lemmas.Grind.{flat_map-append}
 use Rattle.rr_types.specs.declared.command.Command.{Command}
 use Rattle.rr_model.specs.Sound.{IsDecidedList}
-use Rattle.rr_account.specs.Texts.{note_line}
 use Rattle.rr_text.specs.declared.event.Event.{Event}
 use Rattle.rr_text.specs.Lines.{nodes_line}
 use Rattle.rr_text.specs.ReportTexts.{line, decided_lines}
@@ -18,7 +17,6 @@ use Rattle.rr_sim.proofs.DrawingLemmas.{each_of_both}
 use Rattle.rr_sim.proofs.ToldLaws.{is_report_on}
 use Rattle.rr_lively.specs.Lively.{IsSoFar}
 use Rattle.rr_play.specs.Plays.{Played, IsPlayed, Plays, GoesOnBy, GoesOn, GoesBack, IsReportOf}
-use Rattle.rr_play.specs.Answers.{AddsNotes}
 
 -- ---- what is added
 
@@ -54,21 +52,6 @@ goes_on_both a b c (x, f) (y, g) = (
         ∙ ap (λ (t : List ℕ). a.schedule ++ t) (sym (flat_map-append event_line f.more g.more));
     report = g.report ∙ ap (λ (t : List ℕ). t ++ y) f.report ∙ append_assoc a.report x y;
   },
-)
-
--- ---- notes
-
-pub adds_none : (xs : List ℕ) → AddsNotes xs xs
-adds_none xs = ([], sym (append-nil xs))
-
-pub adds_one : (xs ys words : List ℕ) → ys ≡ xs ++ note_line words → AddsNotes xs ys
-adds_one xs ys words is = (words ∷ [], is ∙ ap (λ (t : List ℕ). xs ++ t) (sym (append-nil (note_line words))))
-
-pub adds_both : (xs ys zs : List ℕ) → AddsNotes xs ys → AddsNotes ys zs → AddsNotes xs zs
-adds_both xs ys zs (ns, f) (ms, g) = (
-  ns ++ ms,
-  g ∙ ap (λ (t : List ℕ). t ++ flat_map note_line ms) f
-      ∙ append_assoc xs (flat_map note_line ns) (flat_map note_line ms) ∙ ap (λ (t : List ℕ). xs ++ t) (sym (flat_map-append note_line ns ms)),
 )
 
 -- ---- events of a list, one after another
