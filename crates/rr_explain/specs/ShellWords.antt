@@ -1,6 +1,5 @@
 -- The words with which a line of a shell begins: how each is used, what it does, and which was meant where none stands.
 use Rattle.std.specs.Prelude.{ℕ, ◌+◌, ◌==◌, nat_le, Bool, true, false, ◌&&◌, ◌||◌, if◌then◌else◌, List, [], ◌∷◌, ◌++◌, codes, Option, None, Some}
-use Rattle.std.specs.Str.{bytes_eq}
 use Rattle.rr_types.specs.declared.command.OpKind.TheVariants as kinds
 use Rattle.rr_types.specs.Commands.{find_by, op_word, op_form}
 use Rattle.rr_explain.specs.declared.shell_word.ShellWord.{ShellWord}
