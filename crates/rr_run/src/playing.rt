@@ -213,6 +213,9 @@ pub(crate) fn play_by_words<R: Files + AllocGlobal, L: FileReader, I: Prompting,
     };
     match session_on(alloc, bytes.as_slice()) {
         Ok(session) => play_on(rt, session, input, out, err),
-        Err(refusal) => end_by_fault(err, TextKind::Schedule, path, bytes.as_slice(), &refusal),
+        Err(refusal) => {
+            let bytes = bytes.as_slice();
+            end_by_fault(alloc, err, TextKind::Schedule, path, bytes, &refusal)
+        }
     }
 }
