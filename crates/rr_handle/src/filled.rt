@@ -1,6 +1,6 @@
 //! Bytes for buffers of the caller.
 
-ghost use Rattle.std.specs.Prelude.{◌≡◌, length, take, IfOk, OnErr};
+ghost use Rattle.std.specs.Prelude.{◌≡◌, ◌<◌, length, take, IfOk, OnErr};
 ghost use Rattle.rr_handle.specs.Seen.{Begins};
 
 use rr_types::Refusal;
