@@ -1,6 +1,6 @@
 use Rattle.std.proofs.Common.{option_map}
 use Rattle.rr_account.proofs.PageLaws.{five_more}
-use Rattle.rr_account.proofs.page_data.push_page_object.Goals as goal
+use Rattle.rr_account.proofs.paging.push_page_object.Goals as goal
 
 pub returns-clause-ok : goal.returns-clause-ok
 returns-clause-ok c =

@@ -3,7 +3,7 @@ use Rattle.std.proofs.Math.ListN.{drop_of_length-le}
 use Rattle.std.proofs.Math.Seq.{drop-cons}
 use Rattle.rr_text.specs.declared.event.Event.{Event}
 use Rattle.rr_account.proofs.PageLaws.{page_next, page_end}
-use Rattle.rr_account.proofs.page_data.data_by.Goals as goal
+use Rattle.rr_account.proofs.paging.data_by.Goals as goal
 
 next_is : (index : ℕ) → suc index ≡ index + 1
 next_is index = omega arith
