@@ -149,35 +149,64 @@ abbrev pub status_line : NodeStatus → List ℕ
 status_line s = spaced (codes "node" ∷ decimal s.node ∷ []) ++ 32 ∷ state_words s.summary (option_map (λ v. v.items) s.failure) ++ 10 ∷ []
 
 -- the commands, or how one is used
-abbrev pub help_text : Option ShellWord → List ℕ
-help_text None =
+abbrev pub forms_text : List ℕ
+forms_text =
     listed (map op_form op_kinds)
     ++ codes ", look NAME, list [PREFIX], watch [PREFIX], sync, at NODE, stop NODE, start NODE, snapshot NODE, status, again, help [COMMAND], quit or exit"
-help_text (Some word) = word_help word ++ codes "; for example: " ++ word_example word
+
+abbrev pub use_text : ShellWord → List ℕ
+use_text word = word_help word ++ codes "; for example: " ++ word_example word
+
+abbrev pub help_text : Option ShellWord → List ℕ
+help_text None = forms_text
+help_text (Some word) = use_text word
 
 -- the lines that tell them: one for each command, or one on it and one with an example
+abbrev pub use_lines : ShellWord → List ℕ
+use_lines word = word_help word ++ 10 ∷ codes "for example: " ++ word_example word ++ 10 ∷ []
+
+abbrev pub all_lines : List ℕ
+all_lines = flat_map help_line shell_words
+
 abbrev pub help_lines : Option ShellWord → List ℕ
-help_lines None = flat_map help_line shell_words
-help_lines (Some word) = help_line word ++ codes "for example: " ++ word_example word ++ 10 ∷ []
+help_lines None = all_lines
+help_lines (Some word) = use_lines word
 
 -- that there is no such node, of n nodes
 abbrev pub no_node_text : ℕ → List ℕ
 no_node_text n = codes "no such node: a number is expected that is below" ++ 32 ∷ decimal n
 
 -- that a line is no command, and which one was meant, or else which ones there are
+abbrev pub words_text : List ℕ
+words_text = listed (map op_word op_kinds) ++ codes ", look, list, watch, sync, at, stop, start, snapshot, status, again, help, quit or exit is expected"
+
+abbrev pub meant_text : ShellWord → List ℕ
+meant_text word = codes "did you mean `" ++ word_text word ++ codes "`?"
+
+-- which command was meant, or else which ones there are
+abbrev pub which_text : Option ShellWord → List ℕ
+which_text None = words_text
+which_text (Some word) = meant_text word
+
 abbrev pub no_command_text : Option ShellWord → List ℕ
-no_command_text None = codes "no such command: " ++ listed (map op_word op_kinds) ++ codes ", look, list, watch, sync, at, stop, start, snapshot, status, again, help, quit or exit is expected"
-no_command_text (Some word) = codes "no such command: did you mean `" ++ word_text word ++ codes "`?"
+no_command_text meant = codes "no such command: " ++ which_text meant
 
 -- how a command is written, behind what is wrong
 abbrev pub form_behind : ShellWord → List ℕ
 form_behind word = codes "; the form is `" ++ word_form word ++ codes "`"
 
+-- that there is no name or no value where this command wants one
+abbrev pub no_name_text : ShellWord → List ℕ
+no_name_text word = codes "no name: 1 to 64 bytes of a to z, 0 to 9 and - are expected" ++ form_behind word
+
+abbrev pub no_value_text : ShellWord → List ℕ
+no_value_text word = codes "no value: 0 to 64 bytes from ! to ~ are expected, and no space" ++ form_behind word
+
 -- what is wrong with a line, and what is expected, of n nodes
 abbrev pub fault_text : ℕ → LineFault → List ℕ
 fault_text n (NoCommand meant) = no_command_text meant
-fault_text n (BadName word) = codes "no name: 1 to 64 bytes of a to z, 0 to 9 and - are expected" ++ form_behind word
-fault_text n (BadValue word) = codes "no value: 0 to 64 bytes from ! to ~ are expected, and no space" ++ form_behind word
+fault_text n (BadName word) = no_name_text word
+fault_text n (BadValue word) = no_value_text word
 fault_text n (BadOwner word) = codes "no owner: a number below 4294967296 is expected" ++ form_behind word
 fault_text n (NoNode word) = no_node_text n ++ form_behind word
 fault_text n (Behind word) = codes "too many words" ++ form_behind word

@@ -34,16 +34,16 @@ pub returns-in_ok-troubled-in-Start : goal.returns-in_ok-troubled-in-Start
 returns-in_ok-troubled-in-Start g c = rw (c.in-Start.is, c.in_ok-troubled-in-Start.ensures.0, c.in_ok-troubled-in-Start.ensures.1, c.in_ok-troubled-in-Start.ensures.2, c.in_ok-troubled-in-Start.ensures.3) (unstarted c.in-Start.next (rw c.if-branch.false at c.in_ok-start-in-Start.ensures))
 
 pub returns-in_ok-written-in-Snapshot : goal.returns-in_ok-written-in-Snapshot
-returns-in_ok-written-in-Snapshot g c = rw (c.in-Snapshot.is, c.in_ok-written-in-Snapshot.ensures.0, c.in_ok-written-in-Snapshot.ensures.1, c.in_ok-written-in-Snapshot.ensures.2, c.in_ok-written-in-Snapshot.ensures.3) (written c.in-Snapshot.next (rw c.if-branch.true at c.in_ok-snapshot-in-Snapshot.ensures))
+returns-in_ok-written-in-Snapshot g c = rw (c.in-Snapshot.is, c.in_ok-written-in-Snapshot.ensures.0, c.in_ok-written-in-Snapshot.ensures.1, c.in_ok-written-in-Snapshot.ensures.2, c.in_ok-written-in-Snapshot.ensures.3) (written c.in-Snapshot.next (rw c.if-branch-2.true at c.in_ok-snapshot-in-Snapshot.ensures))
 
 pub returns-in_ok-troubled-in-Snapshot : goal.returns-in_ok-troubled-in-Snapshot
-returns-in_ok-troubled-in-Snapshot g c = rw (c.in-Snapshot.is, c.in_ok-troubled-in-Snapshot.ensures.0, c.in_ok-troubled-in-Snapshot.ensures.1, c.in_ok-troubled-in-Snapshot.ensures.2, c.in_ok-troubled-in-Snapshot.ensures.3) (unwritten c.in-Snapshot.next (rw c.if-branch.false at c.in_ok-snapshot-in-Snapshot.ensures))
+returns-in_ok-troubled-in-Snapshot g c = rw (c.in-Snapshot.is, c.in_ok-troubled-in-Snapshot.ensures.0, c.in_ok-troubled-in-Snapshot.ensures.1, c.in_ok-troubled-in-Snapshot.ensures.2, c.in_ok-troubled-in-Snapshot.ensures.3) (unwritten c.in-Snapshot.next (rw c.if-branch-2.false at c.in_ok-snapshot-in-Snapshot.ensures))
 
 pub returns-in_ok-stated-in-Status : goal.returns-in_ok-stated-in-Status
 returns-in_ok-stated-in-Status g c = rw (c.in-Status.is, c.in_ok-stated-in-Status.ensures.0, c.in_ok-stated-in-Status.ensures.2, c.in_ok-stated-in-Status.ensures.3) (stated c.in_ok-stated-in-Status.field-0.text.items c.in_ok-stated-in-Status.ensures.1)
 
 pub returns-in_ok-helped-in-Help : goal.returns-in_ok-helped-in-Help
-returns-in_ok-helped-in-Help g c = rw (c.in-Help.is, c.in_ok-helped-in-Help.ensures.0, c.in_ok-helped-in-Help.ensures.1, c.in_ok-helped-in-Help.ensures.2, c.in_ok-helped-in-Help.ensures.3) helped
+returns-in_ok-helped-in-Help g c = rw (c.in-Help.is, c.in_ok-helped-in-Help.ensures.0, c.in_ok-helped-in-Help.ensures.1, c.in_ok-helped-in-Help.ensures.2, c.in_ok-helped-in-Help.ensures.3) (helped c.in-Help.word)
 
 pub returns-in-Watch : goal.returns-in-Watch
 returns-in-Watch g c = rw (c.in-Watch.is, c.new.ensures.items) (watches c.in-Watch.prefix)
