@@ -1,6 +1,6 @@
 //! What is said to a line: an answer, a move, the help or a fault.
 
-ghost use Rattle.std.specs.Prelude.{◌≡◌, ◌∷◌, ◌++◌, OnOk, decimal};
+ghost use Rattle.std.specs.Prelude.{◌≡◌, ◌∷◌, ◌++◌, None, OnOk, decimal};
 ghost use Rattle.std.specs.List.{flat_map};
 ghost use Rattle.rr_text.specs.Words.{spaced};
 ghost use Rattle.rr_shell.specs.Texts.{bound_words, answer_words, answer_line, bound_line, list_lines, watching_line, changed_line, freed_line, late_text, late_line, synced_line, move_line, stop_line, start_line, snapshot_line, node_text, no_snapshot_text, no_snapshot_line, down_text, down_line, counts_words, summary_words, status_line, help_text, help_lines, no_node_text, no_command_text, form_behind, fault_text, fault_line};
@@ -300,20 +300,29 @@ pub fn push_status(out: &mut Vec<u8>, status: &NodeStatus) -> Result<(), AllocEr
     push_byte(out, b'\n')
 }
 
+// Appends how all commands are written.
+fn push_forms(out: &mut Vec<u8>) -> Result<(), AllocError>
+    ensures ok { OnOk result (out.new.items ≡ out.old.items ++ help_text None) }
+{
+    push_bytes(out, OpKind::forms().as_bytes())?;
+    push_bytes(
+        out,
+        b", look NAME, list [PREFIX], watch [PREFIX], sync, at NODE, stop NODE, start NODE, snapshot NODE, status, again, help [COMMAND], quit or exit",
+    )
+}
+
 /// Appends the commands, or how one is used.
 pub(crate) fn push_help_text(out: &mut Vec<u8>, word: Option<ShellWord>) -> Result<(), AllocError>
     ensures ok { OnOk result (out.new.items ≡ out.old.items ++ help_text word) }
 {
-    let Some(word) = word else {
-        push_bytes(out, OpKind::forms().as_bytes())?;
-        return push_bytes(
-            out,
-            b", look NAME, list [PREFIX], watch [PREFIX], sync, at NODE, stop NODE, start NODE, snapshot NODE, status, again, help [COMMAND], quit or exit",
-        );
-    };
-    push_word_help(out, word)?;
-    push_bytes(out, b"; for example: ")?;
-    push_bytes(out, word.example().as_bytes())
+    match word {
+        None => push_forms(out),
+        Some(word) => {
+            push_word_help(out, word)?;
+            push_bytes(out, b"; for example: ")?;
+            push_bytes(out, word.example().as_bytes())
+        }
+    }
 }
 
 /// Appends the lines that tell the commands, or how one is used.
@@ -323,13 +332,16 @@ pub(crate) fn push_help_text(out: &mut Vec<u8>, word: Option<ShellWord>) -> Resu
 pub fn push_help(out: &mut Vec<u8>, word: Option<ShellWord>) -> Result<(), AllocError>
     ensures ok { OnOk result (out.new.items ≡ out.old.items ++ help_lines word) }
 {
-    let Some(word) = word else {
-        return push_help_lines(out, &shell_words());
-    };
-    push_word_help(out, word)?;
-    push_bytes(out, b"\nfor example: ")?;
-    push_bytes(out, word.example().as_bytes())?;
-    push_byte(out, b'\n')
+    match word {
+        None => push_help_lines(out, &shell_words()),
+        Some(word) => {
+            push_word_help(out, word)?;
+            push_byte(out, b'\n')?;
+            push_bytes(out, b"for example: ")?;
+            push_bytes(out, word.example().as_bytes())?;
+            push_byte(out, b'\n')
+        }
+    }
 }
 
 fn push_no_node(out: &mut Vec<u8>, nodes: Nodes) -> Result<(), AllocError>
@@ -342,17 +354,21 @@ fn push_no_node(out: &mut Vec<u8>, nodes: Nodes) -> Result<(), AllocError>
 fn push_no_command(out: &mut Vec<u8>, meant: Option<ShellWord>) -> Result<(), AllocError>
     ensures ok { OnOk result (out.new.items ≡ out.old.items ++ no_command_text meant) }
 {
-    let Some(word) = meant else {
-        push_bytes(out, b"no such command: ")?;
-        push_bytes(out, OpKind::words().as_bytes())?;
-        return push_bytes(
-            out,
-            b", look, list, watch, sync, at, stop, start, snapshot, status, again, help, quit or exit is expected",
-        );
-    };
-    push_bytes(out, b"no such command: did you mean `")?;
-    push_bytes(out, word.word().as_bytes())?;
-    push_bytes(out, b"`?")
+    match meant {
+        None => {
+            push_bytes(out, b"no such command: ")?;
+            push_bytes(out, OpKind::words().as_bytes())?;
+            push_bytes(
+                out,
+                b", look, list, watch, sync, at, stop, start, snapshot, status, again, help, quit or exit is expected",
+            )
+        }
+        Some(word) => {
+            push_bytes(out, b"no such command: did you mean `")?;
+            push_bytes(out, word.word().as_bytes())?;
+            push_bytes(out, b"`?")
+        }
+    }
 }
 
 // Appends how a command is written, behind what is wrong.
