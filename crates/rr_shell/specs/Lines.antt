@@ -1,5 +1,5 @@
 -- What a line of a shell asks for: reading it from left to right, as the code does.
-use Rattle.std.specs.Prelude.{ℕ, Bool, not, ◌==◌, ◌&&◌, ◌||◌, false, true, if◌then◌else◌, is_some, List, [], ◌∷◌, ◌++◌, Option, None, Some, Result, Ok, Err}
+use Rattle.std.specs.Prelude.{ℕ, Bool, not, ◌==◌, ◌&&◌, ◌||◌, false, true, if◌then◌else◌, is_some, List, [], ◌∷◌, ◌++◌, length, Option, None, Some, Result, Ok, Err}
 use Rattle.rr_types.specs.declared.command.OpKind.{OpKind}
 use Rattle.rr_types.specs.declared.command.Shape.{Shape}
 use Rattle.rr_types.specs.declared.command.Shape.TheVariants.{Bare, Valued, Owned}
@@ -17,17 +17,14 @@ use Rattle.rr_shell.specs.declared.shell_line.LineFault.TheVariants.{NoCommand, 
 abbrev pub is_blank : ℕ → Bool
 is_blank b = b == 32 || b == 9
 
--- whether nothing was read
-abbrev pub is_unread : List ℕ → Bool
-is_unread [] = true
-is_unread (b ∷ bs) = false
+-- what was read, with a space behind it where a blank was seen since
+abbrev pub spaced_if : Bool → List ℕ → List ℕ
+spaced_if seen read = if seen && not (length read == 0) then read ++ 32 ∷ [] else read
 
 -- what is read of a line behind what was, where a blank was seen since or wasn't: of blanks between words one space, and no others
 abbrev pub tidied_on : List ℕ → Bool → List ℕ → List ℕ
 tidied_on read seen [] = read
-tidied_on read seen (b ∷ bs) =
-    if is_blank b then tidied_on read true bs
-    else (if seen && not (is_unread read) then tidied_on (read ++ 32 ∷ b ∷ []) false bs else tidied_on (read ++ b ∷ []) false bs)
+tidied_on read seen (b ∷ bs) = if is_blank b then tidied_on read true bs else tidied_on (spaced_if seen read ++ b ∷ []) false bs
 
 -- the words of a line, with one space between two of them
 abbrev pub tidied : List ℕ → List ℕ

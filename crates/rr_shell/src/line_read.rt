@@ -1,7 +1,7 @@
 //! Reading a line of a shell.
 
 ghost use Rattle.std.specs.Prelude.{◌≡◌, IfOk};
-ghost use Rattle.rr_shell.specs.Lines.{tidied, parts_of, named_fault, shape_fault, command_at, look_at, prefix_line, prefix_at, node_line, node_line_at, alone, help_at, line_by, shell_line_at};
+ghost use Rattle.rr_shell.specs.Lines.{tidied, parts_of, named_fault, shape_fault, command_at, prefix_line, prefix_at, node_line, node_line_at, alone, help_at, line_by, shell_line_at};
 
 use crate::shell_line::{LineFault, ShellLine};
 use rr_explain::ShellWord;
@@ -68,15 +68,6 @@ fn command(text: &[u8], kind: OpKind, rest: &[u8]) -> Result<ShellLine, LineFaul
     match op(text) {
         Some(op) => Ok(ShellLine::Submit(op)),
         None => Err(shape_fault(kind.shape(), ShellWord::Op(kind), rest)),
-    }
-}
-
-fn look(rest: &[u8]) -> Result<ShellLine, LineFault>
-    ensures { result ≡ look_at rest.now }
-{
-    match name(rest) {
-        Some(name) => Ok(ShellLine::Look(name)),
-        None => Err(named_fault(LineFault::Behind(ShellWord::Look), ShellWord::Look, rest)),
     }
 }
 
@@ -157,7 +148,10 @@ fn line_by(nodes: Nodes, text: &[u8], rest: &[u8], word: ShellWord) -> Result<Sh
 {
     match word {
         ShellWord::Op(kind) => command(text, kind, rest),
-        ShellWord::Look => look(rest),
+        ShellWord::Look => match name(rest) {
+            Some(name) => Ok(ShellLine::Look(name)),
+            None => Err(named_fault(LineFault::Behind(ShellWord::Look), ShellWord::Look, rest)),
+        },
         ShellWord::List => prefixed(word, rest),
         ShellWord::Watch => prefixed(word, rest),
         ShellWord::Sync => alone(word, ShellLine::Sync, rest),

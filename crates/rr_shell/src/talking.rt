@@ -63,12 +63,13 @@ fn said_to<A: Asked>(
     ensures { IfOk result (IsSaidTo A.did json nodes node heard.now) }
 {
     let line = match heard {
-        Heard::Line(line) => tidied(alloc, without_return(line.as_slice()))?,
+        Heard::Line(line) => without_return(line.as_slice()),
         Heard::TooLong => return Ok(Some(faulted(alloc, json, nodes, node, LineFault::TooLong)?)),
         Heard::End => return Ok(None),
     };
-    let line = line.as_slice();
-    if let [] = line {
+    let words = tidied(alloc, line)?;
+    let words = words.as_slice();
+    if let [] = words {
         return Ok(Some(Said {
             node,
             text: Vec::new(alloc),
@@ -76,24 +77,38 @@ fn said_to<A: Asked>(
             watched: None,
         }));
     }
-    match read_shell_line(nodes, line) {
+    match read_shell_line(nodes, words) {
         Ok(line) => said_to_request(alloc, json, nodes, node, asked, &line),
         Err(fault) => Ok(Some(faulted(alloc, json, nodes, node, fault)?)),
     }
 }
 
-// Whether a line sets the empty value, since it has none.
-fn sets_empty(alloc: Global, nodes: Nodes, heard: &Heard) -> bool {
+// Shows that a line has set the empty value, since it has none, where somebody types.
+fn show_empty<I: Prompting>(
+    alloc: Global,
+    nodes: Nodes,
+    trouble: Option<Trouble>,
+    heard: &Heard,
+    input: &mut I,
+)
+    ensures { I.reading input.new ≡ I.reading input.old }
+{
+    if trouble.is_some() {
+        return;
+    }
     let Heard::Line(line) = heard else {
-        return false;
+        return;
     };
-    let Ok(line) = tidied(alloc, without_return(line.as_slice())) else {
-        return false;
+    let Ok(words) = tidied(alloc, without_return(line.as_slice())) else {
+        return;
     };
-    match read_shell_line(nodes, line.as_slice()) {
+    let is_empty = match read_shell_line(nodes, words.as_slice()) {
         Ok(ShellLine::Submit(Op::Claim(_, value))) => value.as_bytes().is_empty(),
         Ok(ShellLine::Submit(Op::Update(_, value))) => value.as_bytes().is_empty(),
         _ => false,
+    };
+    if is_empty {
+        input.show(b"the value is empty, as none was given\n");
     }
 }
 
@@ -180,9 +195,7 @@ fn take_turn<I: Prompting, O: Sink + Send, A: Asked + Send, R: Threads>(
     if let Err(error) = print_all(out, text.as_slice()) {
         return Err(Stop::Unprinted(error));
     }
-    if trouble.is_none() && sets_empty(alloc, nodes, &heard) {
-        input.show(b"the value is empty, as none was given\n");
-    }
+    show_empty(alloc, nodes, trouble, &heard, input);
     if let Some(hint) = asked.hint() {
         show_hint(alloc, input, hint);
     }
