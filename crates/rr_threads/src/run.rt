@@ -16,6 +16,7 @@ use crate::recorder::Recorder;
 use crate::running::Running;
 use crate::shared::{Shared, Start};
 use crate::switches::Switches;
+use crate::wires::Mail;
 use crate::wiring::open_mails;
 use rr_disk::Disk;
 use rr_turn::Turnstile;
@@ -38,6 +39,26 @@ pub fn usual_tick() -> Duration
 
 /// The refusal where two disks decide an instance differently.
 const DIFFERENT: Refusal = Refusal::Damaged { area: 0, offset: 0 };
+
+/// Opens a node of this disk for the begin of a run, which a refusal ends.
+fn open_first<D: Disk + Drop, T: Turnstile>(
+    turnstile: &T,
+    alloc: Global,
+    nodes: Nodes,
+    node: NodeId,
+    disk: D,
+    mail: Mail,
+) -> Result<Part<D>, Refusal>
+    requires exists { node < nodes }
+    requires alike { (one other : D) → D.tells one → D.tells other }
+    ensures whose { IfOk result (λ part. (part.start.moves ≡ 0) × (part.node ≡ node) × (part.journal.node ≡ node) × (part.journal.nodes ≡ nodes)) }
+    ensures mail { IfOk result (λ part. part.mail ≡ mail) }
+{
+    match open_part(turnstile, alloc, Start::first(), nodes, node, disk, mail) {
+        Ok(part) => Ok(part),
+        Err(unopened) => Err(unopened.refusal),
+    }
+}
 
 /// Opens the nodes of these disks, the lowest first, each with its clients.
 fn open_parts<D: Disk + Drop, T: Turnstile, C: Drop>(
@@ -69,10 +90,8 @@ fn open_parts<D: Disk + Drop, T: Turnstile, C: Drop>(
         let Some(own) = clients.next() else {
             unreachable!()
         };
-        match open_part(turnstile, alloc, Start::first(), nodes, node, disk, mail) {
-            Ok(part) => parts.push((part, own))?,
-            Err(unopened) => return Err(unopened.refusal),
-        }
+        let part = open_first(turnstile, alloc, nodes, node, disk, mail)?;
+        parts.push((part, own))?;
         index += 1;
     }
     Ok(parts)
