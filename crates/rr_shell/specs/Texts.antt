@@ -154,16 +154,22 @@ forms_text =
     listed (map op_form op_kinds)
     ++ codes ", look NAME, list [PREFIX], watch [PREFIX], sync, at NODE, stop NODE, start NODE, snapshot NODE, status, again, help [COMMAND], quit or exit"
 
+abbrev pub example_text : ShellWord → List ℕ
+example_text word = codes "; for example: " ++ word_example word
+
 abbrev pub use_text : ShellWord → List ℕ
-use_text word = word_help word ++ codes "; for example: " ++ word_example word
+use_text word = word_help word ++ example_text word
 
 abbrev pub help_text : Option ShellWord → List ℕ
 help_text None = forms_text
 help_text (Some word) = use_text word
 
 -- the lines that tell them: one for each command, or one on it and one with an example
+abbrev pub example_line : ShellWord → List ℕ
+example_line word = (10 ∷ codes "for example: ") ++ word_example word ++ 10 ∷ []
+
 abbrev pub use_lines : ShellWord → List ℕ
-use_lines word = word_help word ++ 10 ∷ codes "for example: " ++ word_example word ++ 10 ∷ []
+use_lines word = word_help word ++ example_line word
 
 abbrev pub all_lines : List ℕ
 all_lines = flat_map help_line shell_words

@@ -3,7 +3,7 @@
 ghost use Rattle.std.specs.Prelude.{◌≡◌, ◌∷◌, ◌++◌, OnOk, decimal, option_map};
 ghost use Rattle.std.specs.List.{flat_map};
 ghost use Rattle.rr_text.specs.Words.{spaced};
-ghost use Rattle.rr_shell.specs.Texts.{bound_words, answer_words, answer_line, bound_line, list_lines, watching_line, changed_line, freed_line, late_text, late_line, synced_line, move_line, stop_line, start_line, snapshot_line, node_text, trouble_text, trouble_line, counts_words, up_words, down_words, status_line, forms_text, use_text, help_text, use_lines, all_lines, help_lines, no_node_text, words_text, meant_text, no_command_text, form_behind, no_name_text, no_value_text, fault_text, fault_line};
+ghost use Rattle.rr_shell.specs.Texts.{bound_words, answer_words, answer_line, bound_line, list_lines, watching_line, changed_line, freed_line, late_text, late_line, synced_line, move_line, stop_line, start_line, snapshot_line, node_text, trouble_text, trouble_line, counts_words, up_words, down_words, status_line, forms_text, example_text, use_text, help_text, example_line, use_lines, all_lines, help_lines, no_node_text, words_text, meant_text, no_command_text, form_behind, no_name_text, no_value_text, fault_text, fault_line};
 
 use crate::listing::Listing;
 use crate::shell_line::{LineFault, MAX_LINE};
@@ -312,13 +312,20 @@ fn push_forms(out: &mut Vec<u8>) -> Result<(), AllocError>
     )
 }
 
+// Appends an example of a command behind how it is used.
+fn push_example(out: &mut Vec<u8>, word: ShellWord) -> Result<(), AllocError>
+    ensures ok { OnOk result (out.new.items ≡ out.old.items ++ example_text word) }
+{
+    push_bytes(out, b"; for example: ")?;
+    push_bytes(out, word.example().as_bytes())
+}
+
 // Appends how a command is used, and an example in the same line.
 fn push_use(out: &mut Vec<u8>, word: ShellWord) -> Result<(), AllocError>
     ensures ok { OnOk result (out.new.items ≡ out.old.items ++ use_text word) }
 {
     push_word_help(out, word)?;
-    push_bytes(out, b"; for example: ")?;
-    push_bytes(out, word.example().as_bytes())
+    push_example(out, word)
 }
 
 /// Appends the commands, or how one is used.
@@ -339,14 +346,21 @@ fn push_all_help(out: &mut Vec<u8>) -> Result<(), AllocError>
     push_help_lines(out, &words)
 }
 
+// Appends the end of a line, and a line with an example of a command.
+fn push_example_line(out: &mut Vec<u8>, word: ShellWord) -> Result<(), AllocError>
+    ensures ok { OnOk result (out.new.items ≡ out.old.items ++ example_line word) }
+{
+    push_bytes(out, b"\nfor example: ")?;
+    push_bytes(out, word.example().as_bytes())?;
+    push_byte(out, b'\n')
+}
+
 // Appends the line of how a command is used, and one with an example.
 fn push_use_lines(out: &mut Vec<u8>, word: ShellWord) -> Result<(), AllocError>
     ensures ok { OnOk result (out.new.items ≡ out.old.items ++ use_lines word) }
 {
     push_word_help(out, word)?;
-    push_bytes(out, b"\nfor example: ")?;
-    push_bytes(out, word.example().as_bytes())?;
-    push_byte(out, b'\n')
+    push_example_line(out, word)
 }
 
 /// Appends the lines that tell the commands, or how one is used.

@@ -83,6 +83,15 @@ fn said_to<A: Asked>(
     }
 }
 
+// Whether a line sets the empty value.
+fn sets_empty(line: &ShellLine) -> bool {
+    match line {
+        ShellLine::Submit(Op::Claim(_, value)) => value.as_bytes().is_empty(),
+        ShellLine::Submit(Op::Update(_, value)) => value.as_bytes().is_empty(),
+        _ => false,
+    }
+}
+
 // Shows that a line has set the empty value, since it has none, where somebody types.
 fn show_empty<I: Prompting>(
     alloc: Global,
@@ -102,13 +111,10 @@ fn show_empty<I: Prompting>(
     let Ok(words) = tidied(alloc, without_return(line.as_slice())) else {
         return;
     };
-    let is_empty = match read_shell_line(nodes, words.as_slice()) {
-        Ok(ShellLine::Submit(Op::Claim(_, value))) => value.as_bytes().is_empty(),
-        Ok(ShellLine::Submit(Op::Update(_, value))) => value.as_bytes().is_empty(),
-        _ => false,
-    };
-    if is_empty {
-        input.show(b"the value is empty, as none was given\n");
+    if let Ok(line) = read_shell_line(nodes, words.as_slice()) {
+        if sets_empty(&line) {
+            input.show(b"the value is empty, as none was given\n");
+        }
     }
 }
 
