@@ -22,7 +22,7 @@ const source = at("source").textContent;
 const body = source.indexOf('<path class="z"');
 const front = source.slice(0, body);
 const origins = [...source.slice(0, body + 4000).matchAll(/<text class="h" x="(\d+)"/g)].map((found) => Number(found[1]));
-const { nodes } = objects[0];
+const nodes = objects[0].nodes;
 let [, full_width, height] = /viewBox="0 0 (\d+) (\d+)"/.exec(front).map(Number);
 
 // What an event stands on directly: the event before it at its node and, of a message that is heard, where that was sent.
