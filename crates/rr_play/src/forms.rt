@@ -1,6 +1,6 @@
 //! Short forms: each is a sequence of events, which are chosen by looking at the nodes.
 
-ghost use Rattle.std.specs.Prelude.{◌≡◌, ◌×◌, IfOk};
+ghost use Rattle.std.specs.Prelude.{◌≡◌, IfOk};
 ghost use Rattle.rr_play.specs.Plays.{Played, GoesOn};
 
 use crate::session::Session;
@@ -91,18 +91,13 @@ pub fn flush(session: Session, alloc: Global, node: NodeId) -> Result<Session, A
     Ok(session)
 }
 
-/// Adds this event of a node again and again, until it changes nothing.
-fn exhaust(
-    session: Session,
-    alloc: Global,
-    node: NodeId,
-    by: NodeEvent<u32>,
-) -> Result<Session, AllocError>
+/// Adds an event again and again, until it changes nothing.
+fn exhaust(session: Session, alloc: Global, event: &Event) -> Result<Session, AllocError>
     ensures { IfOk result (λ s. GoesOn session s) }
 {
     let mut session = session;
     for _event in 0..MOST_ADDED {
-        let (next, is_added) = add(session, alloc, node, by)?;
+        let (next, is_added) = add_event(session, alloc, event)?;
         session = next;
         if !is_added {
             return Ok(session);
@@ -121,7 +116,7 @@ pub fn send_all(session: Session, alloc: Global, node: NodeId) -> Result<Session
     ensures { IfOk result (λ s. GoesOn session s) }
 {
     if is_up(session.stance(node)) {
-        exhaust(session, alloc, node, NodeEvent::Send)
+        exhaust(session, alloc, &Event::at(node, NodeEvent::Send))
     } else {
         Ok(session)
     }
@@ -132,7 +127,7 @@ pub fn acknowledge_all(session: Session, alloc: Global, node: NodeId) -> Result<
     ensures { IfOk result (λ s. GoesOn session s) }
 {
     if is_up(session.stance(node)) {
-        exhaust(session, alloc, node, NodeEvent::Acknowledge)
+        exhaust(session, alloc, &Event::at(node, NodeEvent::Acknowledge))
     } else {
         Ok(session)
     }
