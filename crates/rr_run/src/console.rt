@@ -1,10 +1,11 @@
 //! The nodes that a shell asks, through its board.
 
-ghost use Rattle.std.specs.Prelude.{◌≡◌, ◌<◌, ◌++◌, true, None, IfOk, IfSome, OnOk};
+ghost use Rattle.std.specs.Prelude.{◌≡◌, ◌<◌, ◌++◌, true, None, Option, is_some, IfOk, IfSome, OnOk};
 ghost use Rattle.rr_shell.specs.Deeds.{waits};
 ghost use Rattle.rr_shell.specs.Talks.{is_outcome_at, IsOf, IsKept, IsSyncBy};
 ghost use Rattle.rr_shell.specs.Watches.{bytes_of, IsPiece};
-ghost use Rattle.rr_run.specs.Boards.{Came, DidBy};
+ghost use Rattle.rr_types.specs.declared.refusal.Refusal.{Refusal};
+ghost use Rattle.rr_run.specs.Boards.{Came, DidBy, WasFailed};
 ghost use Rattle.rr_run.specs.Ears.{heard_by};
 ghost use Rattle.rr_run.specs.Hints.{hint_of_room, hint_behind, warned_behind, IsHinted};
 ghost use Rattle.rr_run.specs.Numbers.{greatest_told, HaveTold, IsNext, IsBehindAll};
@@ -238,6 +239,23 @@ impl<
         None
     }
 
+    // What a node is told to be that is down: stopped, or failed and why.
+    fn down_status(&self, node: NodeId) -> Result<NodeStatus, Refusal>
+        ensures node { IfOk result (λ s. s.node ≡ node) }
+        ensures down { IfOk result (λ s. s.summary ≡ None) }
+        ensures failed { IfOk result (λ s. (e : Option Refusal) × WasFailed B.gives node e × (is_some s.failure ≡ is_some e)) }
+    {
+        let failure = match self.board.failure(self.rt, node) {
+            Some(refusal) => Some(failure_text(self.rt.alloc(), self.reasons, node, &refusal)?),
+            None => None,
+        };
+        Ok(NodeStatus {
+            node,
+            summary: None,
+            failure,
+        })
+    }
+
     // What a person is told now, and then no more.
     fn take_hint(&mut self) -> Option<Hint>
         ensures told { result ≡ self.old.hint }
@@ -358,24 +376,17 @@ impl<
     }
 
     fn status(&mut self, node: NodeId) -> Result<NodeStatus, Refusal> {
-        if self.board.is_on(node) {
-            let told = ask(&mut self.board, self.rt, &Question::Summary { node })?;
-            if let Some(summary) = summary_in(&told) {
-                return Ok(NodeStatus {
-                    node,
-                    summary: Some(summary),
-                    failure: None,
-                });
-            }
+        if !self.board.is_on(node) {
+            return self.down_status(node);
         }
-        let failure = match self.board.failure(self.rt, node) {
-            Some(refusal) => Some(failure_text(self.rt.alloc(), self.reasons, node, &refusal)?),
-            None => None,
-        };
-        Ok(NodeStatus {
-            node,
-            summary: None,
-            failure,
-        })
+        let told = ask(&mut self.board, self.rt, &Question::Summary { node })?;
+        match summary_in(&told) {
+            Some(summary) => Ok(NodeStatus {
+                node,
+                summary: Some(summary),
+                failure: None,
+            }),
+            None => self.down_status(node),
+        }
     }
 }
