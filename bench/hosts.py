@@ -77,7 +77,10 @@ class Bench:
     def ask(self, nodes, clients, commands, first=1):
         ends = ",".join(f"127.0.0.1:{PORT + 100 + node}" for node in nodes)
         words = [self.lines, ends, str(clients), str(commands), str(first)]
-        return self.etcd["Took"].told(subprocess.run(words, capture_output=True, text=True, check=True).stdout)
+        ran = subprocess.run(words, capture_output=True, text=True)
+        if ran.returncode != 0:
+            sys.exit(f"bench/hosts.py: clients failed: {ran.stderr}")
+        return self.etcd["Took"].told(ran.stdout)
 
     def ours(self, place, run):
         """What a run over three fresh processes gives."""

@@ -12,7 +12,7 @@ use std::thread;
 use std::time::{Duration, Instant};
 
 /// Where a write took less, as in memory, the next one is made without the thread: to wake it would take longer.
-const QUICK: Duration = Duration::from_micros(100);
+const QUICK: Duration = Duration::from_micros(20);
 
 /// The files of both areas.
 struct Files([File; 2]);

@@ -25,6 +25,9 @@ use wires::{Wire, Wish};
 /// How long it is from one tick to the next.
 const TICK: Duration = Duration::from_millis(50);
 
+/// At this tick all processes that are there have connected, so that no request of a process that comes back is lost.
+const CONNECTED: u32 = 4;
+
 /// The clients' numbers from here on are the processes' own.
 const OWN: u32 = u32::MAX - 6;
 
@@ -175,7 +178,8 @@ impl Process {
     }
 
     /// The loop of a host.
-    fn run(&mut self, node: &mut Node) -> Result<(), Box<dyn Error>> {
+    fn run(&mut self, node: &mut Node, behind: Option<u8>) -> Result<(), Box<dyn Error>> {
+        let mut ticks = 0;
         let mut room = vec![0; 1 << 16];
         let mut next = Instant::now();
         loop {
@@ -188,6 +192,10 @@ impl Process {
                 next = Instant::now() + TICK;
                 self.links.values_mut().for_each(Link::connect);
                 node.tick()?;
+                ticks += 1;
+                if let (Some(number), CONNECTED) = (behind, ticks) {
+                    ask_where_others_are(node, number)?;
+                }
             }
         }
     }
@@ -251,10 +259,7 @@ fn run(nodes: u8, number: u8, folder: &Path, port: u16, is_new: bool) -> Result<
     };
     process.open(&mut node)?;
     println!("node {number} of {nodes} is up: {} commands are decided", node.status()?.decided);
-    if !is_new {
-        ask_where_others_are(&mut node, number)?;
-    }
-    process.run(&mut node)
+    process.run(&mut node, (!is_new).then_some(number))
 }
 
 fn main() -> Result<(), Box<dyn Error>> {
