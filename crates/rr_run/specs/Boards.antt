@@ -5,6 +5,7 @@ use Rattle.rr_types.specs.declared.command.RequestNo.{RequestNo}
 use Rattle.rr_types.specs.declared.refusal.Refusal.{Refusal}
 use Rattle.rr_types.specs.declared.summary.NodeSummary.{NodeSummary}
 use Rattle.rr_shell.specs.declared.outcome.Outcome.{Outcome}
+use Rattle.rr_shell.specs.declared.status.NodeStatus.{NodeStatus}
 use Rattle.rr_shell.specs.declared.outcome.Outcome.TheVariants.{Nothing}
 use Rattle.rr_shell.specs.Deeds as deeds
 use Rattle.rr_shell.specs.Deeds.{Deed, waits, submits, repeats, catches_up, looks, lists, observes, finds_off, stops, starts, snaps, tells}
@@ -92,6 +93,10 @@ WasFailed {B} gives p refusal = (at : B) × gives at (finds_failed p refusal) at
 -- at some time a node was down: it was found not to be on, or it was asked how it is, and didn't tell
 abbrev pub WasDown : {B : Type 0} → (B → Call → B → Type 0) → ℕ → Type 0
 WasDown gives p = WasFound gives p false ⊎ ((t : Told) × WasTold gives (asks.Summary p) t × (summary_in t ≡ None))
+
+-- a status tells that node p is down, and that it has failed if it was found so
+abbrev pub IsToldDown : {B : Type 0} → (B → Call → B → Type 0) → ℕ → NodeStatus → Type 0
+IsToldDown gives p s = (s.node ≡ p) × (s.summary ≡ None) × ((e : Option Refusal) × WasFailed gives s.node e × (is_some s.failure ≡ is_some e))
 
 -- what came of a request, by what was told to the question that submits it
 abbrev pub Came : {B : Type 0} → (B → Call → B → Type 0) → Question → RequestNo → Outcome → Type 0

@@ -1,6 +1,6 @@
 //! The board by which a shell asks the clients of nodes, and stops and starts the nodes.
 
-ghost use Rattle.std.specs.Prelude.{◌≡◌, true, None, IfOk, IfErr, IfSome, OnOk};
+ghost use Rattle.std.specs.Prelude.{◌≡◌, true, false, None, IfOk, IfErr, IfSome, OnOk};
 ghost use Rattle.rr_run.specs.Boards.{Call, finds_on, finds_up, finds_begun, finds_failed, turns_off, turns_on, leaves, rings, takes, misses, finds_over, ends, IsTold, IsUnanswered, IsTurned, IsSwitched, IsCutOff};
 ghost use Rattle.rr_run.specs.Questions.{node_of};
 

@@ -1,11 +1,10 @@
 //! The nodes that a shell asks, through its board.
 
-ghost use Rattle.std.specs.Prelude.{◌≡◌, ◌<◌, ◌++◌, true, None, Option, is_some, IfOk, IfSome, OnOk};
+ghost use Rattle.std.specs.Prelude.{◌≡◌, ◌<◌, ◌++◌, true, None, IfOk, IfSome, OnOk};
 ghost use Rattle.rr_shell.specs.Deeds.{waits};
 ghost use Rattle.rr_shell.specs.Talks.{is_outcome_at, IsOf, IsKept, IsSyncBy};
 ghost use Rattle.rr_shell.specs.Watches.{bytes_of, IsPiece};
-ghost use Rattle.rr_types.specs.declared.refusal.Refusal.{Refusal};
-ghost use Rattle.rr_run.specs.Boards.{Came, DidBy, WasFailed};
+ghost use Rattle.rr_run.specs.Boards.{Came, DidBy, IsToldDown};
 ghost use Rattle.rr_run.specs.Ears.{heard_by};
 ghost use Rattle.rr_run.specs.Hints.{hint_of_room, hint_behind, warned_behind, IsHinted};
 ghost use Rattle.rr_run.specs.Numbers.{greatest_told, HaveTold, IsNext, IsBehindAll};
@@ -30,9 +29,9 @@ use std::sync::Wait;
 /// The nodes that a shell asks, as this client, with the request numbers of a folder that is locked; the command that isn't
 /// acknowledged and may be asked again; what a person is to be told; where the changes are heard that are watched; and of which failed nodes a person was told.
 #[derive(Drop)]
-pub(crate) struct Console<'x, B, F, R> {
+pub(crate) struct Console<'x, 'y, B, F, R> {
     pub(crate) rt: &'x R,
-    pub(crate) reasons: &'x Reasons,
+    pub(crate) reasons: &'y Reasons,
     pub(crate) locks: Locks<F>,
     pub(crate) nodes: Nodes,
     pub(crate) client: u32,
@@ -103,6 +102,23 @@ fn warned_behind(has_warned: bool, hint: &Option<Hint>) -> bool
     }
 }
 
+// Of which failed nodes a person is told, who was told of these, with the lowest of the others; and that one, if there is one.
+fn told_next(nodes: Nodes, failed: NodeSet, told: NodeSet) -> (NodeSet, Option<NodeId>) {
+    let mut still = NodeSet::empty();
+    let mut next = None;
+    for place in 0..nodes.count() {
+        if let Some(node) = NodeId::new(nodes, place) {
+            if failed.contains(node) && (told.contains(node) || next.is_none()) {
+                still = still.with(node);
+                if !told.contains(node) {
+                    next = Some(node);
+                }
+            }
+        }
+    }
+    (still, next)
+}
+
 // The greatest number of a client that facts name, with one that is told.
 fn greatest_told(most: Option<u64>, told: &Told) -> Option<u64>
     ensures { result ≡ greatest_told most told.now }
@@ -139,10 +155,11 @@ fn greatest_used<B: Board, R: Wait>(
 
 impl<
     'x,
+    'y,
     B: Board,
     F: Read + Write + Seek + FileExt + OpenFile + Drop,
     R: Files<File = F> + AllocGlobal + Wait,
-> Console<'x, B, F, R> {
+> Console<'x, 'y, B, F, R> {
     // A request number that was never given. At the end of a block the next one is reserved, which begins no earlier than this one ends.
     fn next_request(&mut self) -> Result<RequestNo, Refusal>
         ensures own { IfOk result (λ q. q.client ≡ self.old.client) }
@@ -223,27 +240,32 @@ impl<
         Ok(outcome_in(node, request, &told))
     }
 
+    // The nodes that have failed.
+    fn failed_nodes(&self) -> NodeSet {
+        let mut failed = NodeSet::empty();
+        for index in 0..self.nodes.count() {
+            if let Some(node) = NodeId::new(self.nodes, index) {
+                if self.board.failure(self.rt, node).is_some() {
+                    failed = failed.with(node);
+                }
+            }
+        }
+        failed
+    }
+
     // A node that has failed since a person was told of it last.
     fn take_failed(&mut self) -> Option<NodeId>
         ensures kept { self.new.unanswered ≡ self.old.unanswered }
     {
-        for index in 0..self.nodes.count() {
-            let node = NodeId::new(self.nodes, index)?;
-            if self.board.failure(self.rt, node).is_none() {
-                self.failed = self.failed.without(node);
-            } else if !self.failed.contains(node) {
-                self.failed = self.failed.with(node);
-                return Some(node);
-            }
-        }
-        None
+        let failed = self.failed_nodes();
+        let (told, next) = told_next(self.nodes, failed, self.failed);
+        self.failed = told;
+        next
     }
 
     // What a node is told to be that is down: stopped, or failed and why.
     fn down_status(&self, node: NodeId) -> Result<NodeStatus, Refusal>
-        ensures node { IfOk result (λ s. s.node ≡ node) }
-        ensures down { IfOk result (λ s. s.summary ≡ None) }
-        ensures failed { IfOk result (λ s. (e : Option Refusal) × WasFailed B.gives node e × (is_some s.failure ≡ is_some e)) }
+        ensures { IfOk result (IsToldDown B.gives node) }
     {
         let failure = match self.board.failure(self.rt, node) {
             Some(refusal) => Some(failure_text(self.rt.alloc(), self.reasons, node, &refusal)?),
@@ -268,10 +290,11 @@ impl<
 
 impl<
     'x,
+    'y,
     B: Board,
     F: Read + Write + Seek + FileExt + OpenFile + Drop,
     R: Files<File = F> + AllocGlobal + Wait,
-> Asked for Console<'x, B, F, R> {
+> Asked for Console<'x, 'y, B, F, R> {
     ghost did = { DidBy B.gives };
 
     ghost unanswered = { λ c. c.unanswered };

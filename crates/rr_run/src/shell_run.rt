@@ -110,6 +110,7 @@ where
         Ok(clients) => clients,
         Err(refusal) => return end_by_refusal(err, &refusal),
     };
+    let board = AtPost { post: &post };
     let console = Console {
         rt,
         reasons: &reasons,
@@ -117,7 +118,7 @@ where
         nodes,
         client,
         block: Block::behind(0),
-        board: AtPost { post: &post },
+        board,
         unanswered: None,
         hint: None,
         has_warned: false,
