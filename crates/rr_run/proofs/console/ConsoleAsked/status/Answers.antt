@@ -7,5 +7,5 @@ pub returns-clause-own : goal.returns-clause-own
 returns-clause-own g c =
     let gives = g.B.Board.gives in
     IfOk-weaker c.down_status-in-None.result _ _
-    (λ s down. inr (down.1.0, subst (λ (k : ℕ). WasDown gives k) (sym down.0) (inr (c.in_ok-told.told, (_, _, c.in_ok-told.ensures.ok), sym c.summary_in.ensures ∙ c.in-None.is)), down.1.1))
+    (λ s down. inr (down.1, subst (λ (k : ℕ). WasDown gives k) (sym down.0) (inr (c.in_ok-told.told, (_, _, c.in_ok-told.ensures.ok), sym c.summary_in.ensures ∙ c.in-None.is)), down.2))
     c.down_status-in-None.ensures
