@@ -24,13 +24,15 @@ fn a_prompt_stands_before_each_line_that_is_read(rt: HostRuntime) {
     );
     assert_eq!(rt; status, 0);
     assert!(rt; out.into_inner().as_slice() == b"claimed\nlist 1\na bound 0 x\n".as_slice());
-    assert!(rt; seen.as_slice() == b"> > > \n".as_slice());
+    let told =
+        b"rr: a new registry in rr_shell_prompts, of 1 nodes; you are client 0, and ask node 0; \"help\" lists the commands, \"quit\" or Ctrl-D ends\n> > > \n";
+    assert!(rt; seen.as_slice() == told.as_slice());
     assert!(rt; err.is_empty());
     fs::remove_dir_all(&rt, "rr_shell_prompts").expect(&rt, "the folder goes");
 }
 
 #[test]
-fn who_types_sees_what_was_left_out(rt: HostRuntime) {
+fn who_types_sees_what_the_shell_runs_over(rt: HostRuntime) {
     let words = ["rr", "shell", "--dir", "rr_shell_defaults"];
     let mut seen = Vec::new(rt.alloc());
     let mut out = Counted::new(Vec::new(rt.alloc()));
@@ -47,7 +49,7 @@ fn who_types_sees_what_was_left_out(rt: HostRuntime) {
     assert_eq!(rt; status, 0);
     assert!(rt;
         seen.as_slice()
-            .starts_with(b"rr: --nodes 3 --dir rr_shell_defaults; ")
+            .starts_with(b"rr: a new registry in rr_shell_defaults, of 3 nodes; ")
     );
     assert!(rt; seen.as_slice().ends_with(b"\n> > \n"));
     assert!(rt; err.is_empty());
@@ -71,7 +73,7 @@ fn who_types_sees_that_a_command_may_be_asked_again(rt: HostRuntime) {
     );
     let told = b"stopped 1\nunacknowledged\nstarted 1\nclaimed\n";
     let hint =
-        b"> > it may count or not; \"again\" asks once more under its request number, so that it counts once\n> > > \n";
+        b"rr: a new registry in rr_shell_again, of 2 nodes; you are client 0, and ask node 0; \"help\" lists the commands, \"quit\" or Ctrl-D ends\n> > it may count or not; \"again\" asks once more under its request number, so that it counts once\n> > > \n";
     assert_eq!(rt; status, 0);
     assert!(rt; out.into_inner().as_slice() == told.as_slice());
     assert!(rt; seen.as_slice() == hint.as_slice());
