@@ -42,10 +42,10 @@ def read_words():
 class Shell:
     """A shell of so many nodes over fresh folders."""
 
-    def __init__(self, words, nodes):
+    def __init__(self, words, nodes, *more):
         self.nodes = nodes
         self.room = tempfile.TemporaryDirectory(dir=words.folder)
-        line = [words.rr, "shell", "--nodes", str(nodes), "--dir", f"{self.room.name}/nodes", "--client", "7"]
+        line = [words.rr, "shell", "--nodes", str(nodes), "--dir", f"{self.room.name}/nodes", "--client", "7", *more]
         self.run = subprocess.Popen(line, stdin=subprocess.PIPE, stdout=subprocess.PIPE, text=True, bufsize=1)
         self.count = 0
         self.ask("at 0")

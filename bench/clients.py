@@ -206,7 +206,7 @@ def etcd_client(asked, room):
     if "etcd" in asked.without or not shutil.which("etcd") or not shutil.which("go"):
         return None
     program = f"{room}/etcd_client"
-    subprocess.run(["go", "build", "-o", program, str(HERE / "etcd_client/main.go")], check=True, env={**os.environ, "GO111MODULE": "off"})
+    subprocess.run(["go", "build", "-o", program, "./etcd_client"], cwd=HERE, check=True, env={**os.environ, "GO111MODULE": "on", "GOPROXY": "off"})
     return program
 
 

@@ -71,7 +71,8 @@ class Bench:
         subprocess.run(["cargo", "build", "--release", "--offline", "--quiet"], cwd=HERE.parent / "examples/three_processes", env=env, check=True)
         self.program = f"{room}/target/release/three_processes"
         for name in ("lines_client", "etcd_client"):
-            subprocess.run(["go", "build", "-o", f"{room}/{name}", str(HERE / name / "main.go")], check=True, env={**os.environ, "GO111MODULE": "off"})
+            env = {**os.environ, "GO111MODULE": "on", "GOPROXY": "off"}
+            subprocess.run(["go", "build", "-o", f"{room}/{name}", f"./{name}"], cwd=HERE, check=True, env=env)
         self.lines, self.json = f"{room}/lines_client", f"{room}/etcd_client"
 
     def ask(self, nodes, clients, commands, first=1):

@@ -1,24 +1,16 @@
 // Clients of etcd, which put a value under a key of their own, one after another: etcd_client ENDPOINTS CLIENTS COMMANDS.
-// ENDPOINTS are addresses of its JSON gateway, divided by commas; a client asks one of them. It prints the commands that were
-// acknowledged, the microseconds of the whole, and those of a command: half took no more than the first number, 99 of 100 no
-// more than the second.
+// ENDPOINTS are addresses of its JSON gateway, divided by commas; a client asks one of them. What it prints is told in bench/measure.
 package main
 
 import (
+	"bench/measure"
 	"bytes"
 	"encoding/base64"
 	"fmt"
 	"io"
 	"net/http"
-	"os"
-	"sort"
-	"strconv"
-	"strings"
-	"sync"
 	"time"
 )
-
-const value = "203.0.113.7:8443"
 
 func put(client *http.Client, endpoint string, body []byte) error {
 	answer, err := client.Post(endpoint+"/v3/kv/put", "application/json", bytes.NewReader(body))
@@ -35,46 +27,21 @@ func put(client *http.Client, endpoint string, body []byte) error {
 	return nil
 }
 
-func write(endpoint string, number, commands int) ([]int64, error) {
+func write(endpoint string, number, commands int, took *measure.Took) error {
 	client := &http.Client{Transport: &http.Transport{}, Timeout: time.Minute}
 	key := base64.StdEncoding.EncodeToString([]byte(fmt.Sprintf("name-%d", number)))
-	body := []byte(fmt.Sprintf(`{"key":"%s","value":"%s"}`, key, base64.StdEncoding.EncodeToString([]byte(value))))
-	took := make([]int64, 0, commands)
-	for range make([]struct{}, commands) {
-		begun := time.Now()
-		if err := put(client, endpoint, body); err != nil {
-			return nil, err
+	body := []byte(fmt.Sprintf(`{"key":"%s","value":"%s"}`, key, base64.StdEncoding.EncodeToString([]byte(measure.Value))))
+	for seq := 1; seq <= commands; seq++ {
+		if err := took.Time(func() error { return put(client, endpoint, body) }); err != nil {
+			return err
 		}
-		took = append(took, time.Since(begun).Microseconds())
 	}
-	return took, nil
+	return nil
 }
 
 func main() {
-	endpoints := strings.Split(os.Args[1], ",")
-	clients, _ := strconv.Atoi(os.Args[2])
-	commands, _ := strconv.Atoi(os.Args[3])
-	var lock sync.Mutex
-	var all []int64
-	var waiting sync.WaitGroup
-	begun := time.Now()
-	for number := 0; number < clients; number++ {
-		waiting.Add(1)
-		go func(number int) {
-			defer waiting.Done()
-			took, err := write(endpoints[number%len(endpoints)], number, commands)
-			if err != nil {
-				fmt.Fprintln(os.Stderr, err)
-				os.Exit(1)
-			}
-			lock.Lock()
-			all = append(all, took...)
-			lock.Unlock()
-		}(number)
-	}
-	waiting.Wait()
-	micros := time.Since(begun).Microseconds()
-	sort.Slice(all, func(i, j int) bool { return all[i] < all[j] })
-	half, most := all[(len(all)-1)/2], all[len(all)-len(all)/100-1]
-	fmt.Printf("acknowledged %d micros %d half %d most %d\n", len(all), micros, half, most)
+	options := measure.Read("etcd_client ENDPOINTS CLIENTS COMMANDS", 0)
+	measure.Run(options, func(endpoint string, number int, took *measure.Took) error {
+		return write(endpoint, number, options.Commands, took)
+	})
 }
