@@ -80,7 +80,7 @@ pub record ToldSoFar (account : Accounted) (index at count : ℕ) (text : List �
   pub each : (shares : List (List ReportLine)) → IsSharedOut account shares → SharedSoFar account shares index count happenings
   pub text_is : text ≡ happening_objects 2 happenings
 
-pub told_none : (account : Accounted) → ToldSoFar account 0 2 0 []
+unfoldable pub told_none : (account : Accounted) → ToldSoFar account 0 2 0 []
 told_none account = record { happenings = []; split = refl; counted = refl; line_is = refl; lines = refl; each = λ shares out. record { stands = stands_first shares; lines = refl; idle = refl }; text_is = refl }
 
 pub told_more : (account : Accounted) (index at count next : ℕ) (is_told : Bool) (e : Event) (l : Option ReportLine) (reason : Reason) (text all : List ℕ) → ToldSoFar account index at count text
@@ -102,7 +102,19 @@ told_more account index at count next is_told e l reason text all s first on one
       text_is = one.grew ∙ ap (λ (t : List ℕ). t ++ happening_object at h) s.text_is ∙ ap (λ (k : ℕ). happening_objects 2 s.happenings ++ happening_object k h) (omega (s.line_is, s.counted, arith)) ∙ sym (objects_more 2 s.happenings h);
     }
 
-pub told_end : (account : Accounted) (index at count : ℕ) (text all : List ℕ) → ToldSoFar account index at count text → drop index account.schedule.events ≡ []
+-- what happened by then
+pub told_more_has : (account : Accounted) (index at count next : ℕ) (is_told : Bool) (e : Event) (l : Option ReportLine) (reason : Reason) (text all : List ℕ) (s : ToldSoFar account index at count text)
+    (first : drop index account.schedule.events ≡ e ∷ drop (index + 1) account.schedule.events) (on : take next account.report.lines ≡ take count account.report.lines ++ lines_of l)
+    (one : IsAnObject at e l (is_idle reason) text all) (inside : index < length account.schedule.events)
+    (counted : count + (if is_told then 1 else 0) ≤ length account.report.lines → next ≡ count + (if is_told then 1 else 0))
+    (came : (outcome : Outcome) → slice_get account.outcomes (at - 2) ≡ Some outcome → count + lines_told outcome ≤ length account.report.lines → (if is_told then 1 else 0) ≡ lines_told outcome)
+    (said : (outcome : Outcome) → slice_get account.outcomes (at - 2) ≡ Some outcome → reason ≡ reason_of outcome (slice_get account.report.lines count))
+    → (told_more account index at count next is_told e l reason text all s first on one inside counted came said).happenings
+    ≡ s.happenings ++ record { event = e; line = l; idle = is_idle reason; note = one.note } ∷ []
+unfolding told_more
+told_more_has account index at count next is_told e l reason text all s first on one inside counted came said = refl
+
+unfoldable pub told_end : (account : Accounted) (index at count : ℕ) (text all : List ℕ) → ToldSoFar account index at count text → drop index account.schedule.events ≡ []
     → all ≡ text ++ decided_objects account.report.decided → length account.schedule.events ≤ index → IsExplanation account all
 told_end account index at count text all s none is past = record {
   happenings = s.happenings;

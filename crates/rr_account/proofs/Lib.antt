@@ -5,3 +5,5 @@ pub mod TextLemmas
 mod WatchLaws
 pub mod TapeLaws
 pub mod DifferenceLemmas
+pub mod HeardLaws
+pub mod PageLaws

@@ -5,3 +5,5 @@ pub mod Objects
 pub mod Texts
 pub mod TapeAccounts
 pub mod Outcomes
+pub mod Decisions
+pub mod Pages

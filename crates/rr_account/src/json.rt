@@ -43,8 +43,8 @@ fn push_note_member(out: &mut Vec<u8>, note: &Option<Vec<u8>>) -> Result<(), All
     }
 }
 
-// Appends an event on line `at` of the schedule, with a note.
-fn push_event_object(
+/// Appends an event on line `at` of the schedule, with a note.
+pub(crate) fn push_event_object(
     alloc: Global,
     out: &mut Vec<u8>,
     at: u64,
@@ -62,8 +62,8 @@ fn push_event_object(
     push_byte(out, b'}')
 }
 
-// Appends the beginning of the object of an event: that of its line of the report, or the kind of an event that has none.
-fn push_front(
+/// Appends the beginning of the object of an event: that of its line of the report, or the kind of an event that has none.
+pub(crate) fn push_front(
     alloc: Global,
     out: &mut Vec<u8>,
     line: Option<&ReportLine>,
@@ -98,8 +98,12 @@ fn push_happening(
     Ok(())
 }
 
-// The line behind the first `told` lines of a report, if an event has one; and how many lines are told then.
-fn next_line(lines: &[ReportLine], told: usize, is_told: bool) -> (Option<&ReportLine>, usize)
+/// The line behind the first `told` lines of a report, if an event has one; and how many lines are told then.
+pub(crate) fn next_line(
+    lines: &[ReportLine],
+    told: usize,
+    is_told: bool,
+) -> (Option<&ReportLine>, usize)
     ensures line { take result.1 lines.now ≡ take told lines.now ++ lines_of (option_map (λ l. l.now) result.0) }
     ensures counted { told + (if is_told then 1 else 0) ≤ length lines.now → result.1 ≡ told + (if is_told then 1 else 0) }
 {

@@ -22,6 +22,8 @@
 #![tactic(auto)]
 
 mod account;
+mod beside;
+mod decisions;
 mod difference;
 mod event_sort;
 mod explaining;
@@ -30,8 +32,10 @@ mod json;
 mod kind;
 mod note;
 mod outcome;
+mod paging;
 mod reasons;
 mod rounds;
+mod seen;
 mod statistics;
 mod table;
 mod taped;
@@ -42,6 +46,7 @@ pub use difference::{Difference, difference_of, push_difference};
 pub use explaining::explanation;
 pub use json::{json_explanation, json_report};
 pub use outcome::{Idle, Outcome};
+pub use paging::{page_data, tape_page_data};
 pub use statistics::{EventCount, MessageCount, RefusalCount, Statistics, statistics_of};
 pub use table::{json_statistics, statistics_table};
 pub use taped::account_of_tape;
