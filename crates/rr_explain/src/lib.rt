@@ -1,6 +1,7 @@
 //! Faults of texts, told to people. After parsing was refused, `print_schedule_fault`, `print_tape_fault` or
 //! `print_script_fault` prints one line. It says where the text is at fault, what is there, and what may be there. `Shown` is a writer to
-//! people, to whose terminal no control byte of a name comes.
+//! people, to whose terminal no control byte of a name comes. `ReasonsFirst` is one that prints a refusal behind its reason. `ShellWord`
+//! is a word with which a line of a shell begins: how it is used, and which was meant by a slip.
 //!
 //! # Example
 //!
@@ -27,7 +28,11 @@ mod awaited;
 mod fault;
 mod faults;
 mod names;
+mod reasons_first;
 mod recorded;
+mod shell_word;
 
 pub use faults::{print_schedule_fault, print_script_fault, print_tape_fault};
 pub use names::{Shown, print_given};
+pub use reasons_first::ReasonsFirst;
+pub use shell_word::{ShellWord, push_help_lines, push_word_help, shell_words};
