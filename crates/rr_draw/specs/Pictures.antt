@@ -22,6 +22,10 @@ escaped b =
     else (if b == 34 then codes "&quot;"
     else b ∷ [])))
 
+-- how JSON in a script of HTML spells a byte: HTML would read the one that begins an element, so JSON has it by its number
+abbrev pub in_script : ℕ → List ℕ
+in_script b = if b == 60 then 92 ∷ codes "u003c" else b ∷ []
+
 -- whether the event of a line lies within the lines and the node of a cut
 abbrev pub shows : Cut → ℕ → Event → Bool
 shows cut at e = nat_le cut.from at && nat_le at cut.to && option_map_or (λ p. p == e.node) cut.node true

@@ -40,6 +40,6 @@ mod taped;
 mod words;
 
 pub use cut::Cut;
-pub use escape::push_escaped;
+pub use escape::{push_escaped, push_script_data};
 pub use picture::picture_of;
 pub use taped::tape_picture;
