@@ -7,11 +7,12 @@ use Rattle.rr_text.specs.declared.answer.Answer.TheVariants.{Acknowledged}
 use Rattle.rr_shell.specs.declared.status.NodeStatus.{NodeStatus}
 use Rattle.rr_shell.specs.declared.status.NodeTrouble.{NodeTrouble}
 use Rattle.rr_shell.specs.declared.shell_line.LineFault.{LineFault}
-use Rattle.rr_shell.specs.Texts.{answer_line, synced_line, list_lines, watching_line, changed_line, freed_line, late_line, late_text, move_line, stop_line, start_line, snapshot_line, trouble_line, trouble_text, status_line, help_line, help_text, fault_line, fault_text, used_text, full_text, nothing_text}
+use Rattle.rr_shell.specs.Texts.{answer_line, synced_line, list_lines, watching_line, changed_line, freed_line, late_line, late_text, move_line, stop_line, start_line, snapshot_line, trouble_line, trouble_text, status_line, help_lines, help_text, fault_line, fault_text, used_text, full_text, nothing_text}
 use Rattle.rr_types.specs.declared.command.Command.{Command}
 use Rattle.rr_shell.specs.declared.outcome.Outcome.{Outcome}
 use Rattle.rr_shell.specs.declared.outcome.Outcome.TheVariants.{Answered, ListFull, Used, Nothing}
 use Rattle.rr_json.specs.Json.{escaped_byte}
+use Rattle.rr_explain.specs.declared.shell_word.ShellWord.{ShellWord}
 use Rattle.rr_shell.specs.Objects.{answer_object, synced_object, list_objects, watching_object, changed_object, freed_object, node_object, status_object, text_object}
 
 -- an answer
@@ -90,9 +91,9 @@ trouble_said t json p = if json then text_object (codes "error") (trouble_text t
 abbrev pub status_said : Bool → NodeStatus → List ℕ
 status_said json s = if json then status_object s else status_line s
 
--- the commands
-abbrev pub help_said : Bool → List ℕ
-help_said json = if json then text_object (codes "help") help_text else help_line
+-- the commands, or how one is used
+abbrev pub help_said : Bool → Option ShellWord → List ℕ
+help_said json word = if json then text_object (codes "help") (help_text word) else help_lines word
 
 -- what is wrong with a line, of n nodes
 abbrev pub fault_said : Bool → ℕ → LineFault → List ℕ

@@ -27,7 +27,8 @@ use Rattle.rr_shell.specs.declared.watching.Watched.{Watched}
 use Rattle.rr_shell.specs.Deeds.{Deed, waits, submits, repeats, catches_up, looks, lists, finds_off, stops, starts, snaps, tells}
 use Rattle.rr_shell.specs.Hearings.{Hears}
 use Rattle.rr_shell.specs.Watches.{IsShown, IsFrontSaid}
-use Rattle.rr_shell.specs.Lines.{shell_line_at}
+use Rattle.rr_explain.specs.declared.shell_word.ShellWord.{ShellWord}
+use Rattle.rr_shell.specs.Lines.{tidied, shell_line_at}
 use Rattle.rr_shell.specs.Troubles.{answer_trouble, outcome_trouble, sync_trouble, listing_trouble}
 use Rattle.rr_shell.specs.declared.troubles.Trouble.{Trouble}
 use Rattle.rr_shell.specs.declared.troubles.Trouble.TheVariants.{Error}
@@ -120,14 +121,14 @@ pub data Grants (Did : Deed → Type 0) (json : Bool) (n p : ℕ) : ShellLine �
   written : (q : ℕ) → Did (snaps q true) → Grants Did json n p (Snapshot q) p (snapshot_said json q) None None
   unwritten : (q : ℕ) → Did (snaps q false) → Grants Did json n p (Snapshot q) p (trouble_said troubles.NoSnapshot json q) (Some Error) None
   stated : (text : List ℕ) → Stated Did json n text → Grants Did json n p Status p text None None
-  helped : Grants Did json n p Help p (help_said json) None None
+  helped : (word : Option ShellWord) → Grants Did json n p (Help word) p (help_said json word) None None
 
--- a line as it is read: without the carriage return that it ends with, if it does
+-- a line as it is read: its words, with one space between two of them, and without the carriage return that it ends with, if it does
 abbrev pub line_of : Vec ℕ Global → List ℕ
-line_of line = strip_last 13 line.items
+line_of line = tidied (strip_last 13 line.items)
 
 -- what is said to what was heard where node p is asked, the node that is asked then, why that isn't what the line asks for,
--- if it isn't, and what is watched until the next line: to a line what it asks for, or why it asks for nothing; nothing to an empty line;
+-- if it isn't, and what is watched until the next line: to a line what it asks for, or why it asks for nothing; nothing to a line without words;
 -- and that a line is too long
 pub data Exchange (Did : Deed → Type 0) (json : Bool) (n p : ℕ) : Heard → ℕ → List ℕ → Option Trouble → Option Watched → Type 0 where
   empty : (line : Vec ℕ Global) → line_of line ≡ [] → Exchange Did json n p (heard.Line line) p [] None None

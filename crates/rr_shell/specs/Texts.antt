@@ -16,7 +16,9 @@ use Rattle.rr_shell.specs.declared.status.NodeTrouble.{NodeTrouble}
 use Rattle.rr_shell.specs.declared.status.NodeTrouble.TheVariants.{Down, NoSnapshot, NoStart}
 use Rattle.rr_types.specs.declared.summary.NodeSummary.{NodeSummary}
 use Rattle.rr_shell.specs.declared.shell_line.LineFault.{LineFault}
-use Rattle.rr_shell.specs.declared.shell_line.LineFault.TheVariants.{NoCommand, BadName, BadValue, BadOwner, NoNode, TooLong}
+use Rattle.rr_shell.specs.declared.shell_line.LineFault.TheVariants.{NoCommand, BadName, BadValue, BadOwner, NoNode, Behind, TooLong}
+use Rattle.rr_explain.specs.declared.shell_word.ShellWord.{ShellWord}
+use Rattle.rr_explain.specs.ShellWords.{shell_words, word_text, word_form, word_example, word_help, help_line}
 
 -- a name that is bound: its owner, and its value unless that is empty
 abbrev pub bound_words : List ℕ → ℕ → List ℕ → List (List ℕ)
@@ -146,31 +148,74 @@ state_words (Some k) failure = spaced (up_words k)
 abbrev pub status_line : NodeStatus → List ℕ
 status_line s = spaced (codes "node" ∷ decimal s.node ∷ []) ++ 32 ∷ state_words s.summary (option_map (λ v. v.items) s.failure) ++ 10 ∷ []
 
--- the commands
-abbrev pub help_text : List ℕ
-help_text =
+-- the commands, or how one is used
+abbrev pub forms_text : List ℕ
+forms_text =
     listed (map op_form op_kinds)
-    ++ codes ", look NAME, list [PREFIX], watch [PREFIX], sync, at NODE, stop NODE, start NODE, snapshot NODE, status, again, help, quit or exit"
+    ++ codes ", look NAME, list [PREFIX], watch [PREFIX], sync, at NODE, stop NODE, start NODE, snapshot NODE, status, again, help [COMMAND], quit or exit"
 
--- the line that names them
-abbrev pub help_line : List ℕ
-help_line = help_text ++ 10 ∷ []
+abbrev pub example_text : ShellWord → List ℕ
+example_text word = codes "; for example: " ++ word_example word
+
+abbrev pub use_text : ShellWord → List ℕ
+use_text word = word_help word ++ example_text word
+
+abbrev pub help_text : Option ShellWord → List ℕ
+help_text None = forms_text
+help_text (Some word) = use_text word
+
+-- the lines that tell them: one for each command, or one on it and one with an example
+abbrev pub example_line : ShellWord → List ℕ
+example_line word = (10 ∷ codes "for example: ") ++ word_example word ++ 10 ∷ []
+
+abbrev pub use_lines : ShellWord → List ℕ
+use_lines word = word_help word ++ example_line word
+
+abbrev pub all_lines : List ℕ
+all_lines = flat_map help_line shell_words
+
+abbrev pub help_lines : Option ShellWord → List ℕ
+help_lines None = all_lines
+help_lines (Some word) = use_lines word
 
 -- that there is no such node, of n nodes
 abbrev pub no_node_text : ℕ → List ℕ
 no_node_text n = codes "no such node: a number is expected that is below" ++ 32 ∷ decimal n
 
--- that a line is no command, and which ones there are
-abbrev pub no_command_text : List ℕ
-no_command_text = codes "no such command: " ++ listed (map op_word op_kinds) ++ codes ", look, list, watch, sync, at, stop, start, snapshot, status, again, help, quit or exit is expected"
+-- that a line is no command, and which one was meant, or else which ones there are
+abbrev pub words_text : List ℕ
+words_text = listed (map op_word op_kinds) ++ codes ", look, list, watch, sync, at, stop, start, snapshot, status, again, help, quit or exit is expected"
+
+abbrev pub meant_text : ShellWord → List ℕ
+meant_text word = codes "did you mean `" ++ word_text word ++ codes "`?"
+
+-- which command was meant, or else which ones there are
+abbrev pub which_text : Option ShellWord → List ℕ
+which_text None = words_text
+which_text (Some word) = meant_text word
+
+abbrev pub no_command_text : Option ShellWord → List ℕ
+no_command_text meant = codes "no such command: " ++ which_text meant
+
+-- how a command is written, behind what is wrong
+abbrev pub form_behind : ShellWord → List ℕ
+form_behind word = codes "; the form is `" ++ word_form word ++ codes "`"
+
+-- that there is no name or no value where this command wants one
+abbrev pub no_name_text : ShellWord → List ℕ
+no_name_text word = codes "no name: 1 to 64 bytes of a to z, 0 to 9 and - are expected" ++ form_behind word
+
+abbrev pub no_value_text : ShellWord → List ℕ
+no_value_text word = codes "no value: 0 to 64 bytes from ! to ~ are expected, and no space" ++ form_behind word
 
 -- what is wrong with a line, and what is expected, of n nodes
 abbrev pub fault_text : ℕ → LineFault → List ℕ
-fault_text n NoCommand = no_command_text
-fault_text n BadName = codes "no name: 1 to 64 bytes of a to z, 0 to 9 and - are expected"
-fault_text n BadValue = codes "no value: 1 to 64 bytes from ! to ~ are expected, and no space"
-fault_text n BadOwner = codes "no owner: a number below 4294967296 is expected"
-fault_text n NoNode = no_node_text n
+fault_text n (NoCommand meant) = no_command_text meant
+fault_text n (BadName word) = no_name_text word
+fault_text n (BadValue word) = no_value_text word
+fault_text n (BadOwner word) = codes "no owner: a number below 4294967296 is expected" ++ form_behind word
+fault_text n (NoNode word) = no_node_text n ++ form_behind word
+fault_text n (Behind word) = codes "too many words" ++ form_behind word
 fault_text n TooLong = codes "too long a line: at most 4096 bytes are expected"
 
 -- the line of a fault, of n nodes

@@ -8,7 +8,7 @@ use Rattle.rr_text.specs.declared.answer.Answer.TheVariants as answer
 use Rattle.rr_shell.specs.declared.outcome.Outcome.{Outcome}
 use Rattle.rr_shell.specs.declared.outcome.Outcome.TheVariants as outcome
 use Rattle.rr_shell.specs.declared.troubles.Trouble.{Trouble}
-use Rattle.rr_shell.specs.declared.troubles.Trouble.TheVariants.{Taken, NotOwner, Unknown, Full, Unacknowledged, Unseen, ListFull, Error}
+use Rattle.rr_shell.specs.declared.troubles.Trouble.TheVariants.{Taken, NotOwner, Unknown, Full, Unacknowledged, Unseen, ListFull, Error, Free}
 
 -- why a reply isn't what its command asked for; none where it is
 abbrev pub reply_trouble : Reply → Option Trouble
@@ -25,7 +25,7 @@ reply_trouble reply.Full = Some Full
 abbrev pub answer_trouble : Answer → Option Trouble
 answer_trouble (answer.Acknowledged p q r) = reply_trouble r
 answer_trouble (answer.Unacknowledged p q) = Some Unacknowledged
-answer_trouble (answer.Free p name) = None
+answer_trouble (answer.Free p name) = Some Free
 answer_trouble (answer.Bound p name owner value) = None
 answer_trouble (answer.Unseen p name) = Some Unseen
 
@@ -56,6 +56,7 @@ strict_status Unacknowledged = 14
 strict_status Unseen = 15
 strict_status ListFull = 16
 strict_status Error = 17
+strict_status Free = 18
 
 -- the status behind a talk: that of the trouble that ended it, or 0
 abbrev pub ending_status : Option Trouble → ℕ

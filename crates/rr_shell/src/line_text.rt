@@ -3,11 +3,12 @@
 ghost use Rattle.std.specs.Prelude.{◌≡◌, ◌∷◌, ◌++◌, OnOk, decimal, option_map};
 ghost use Rattle.std.specs.List.{flat_map};
 ghost use Rattle.rr_text.specs.Words.{spaced};
-ghost use Rattle.rr_shell.specs.Texts.{bound_words, answer_words, answer_line, bound_line, list_lines, watching_line, changed_line, freed_line, late_text, late_line, synced_line, move_line, stop_line, start_line, snapshot_line, node_text, trouble_text, trouble_line, counts_words, up_words, down_words, status_line, help_text, help_line, no_node_text, no_command_text, fault_text, fault_line};
+ghost use Rattle.rr_shell.specs.Texts.{bound_words, answer_words, answer_line, bound_line, list_lines, watching_line, changed_line, freed_line, late_text, late_line, synced_line, move_line, stop_line, start_line, snapshot_line, node_text, trouble_text, trouble_line, counts_words, up_words, down_words, status_line, forms_text, example_text, use_text, help_text, example_line, use_lines, all_lines, help_lines, no_node_text, words_text, meant_text, no_command_text, form_behind, no_name_text, no_value_text, fault_text, fault_line};
 
 use crate::listing::Listing;
 use crate::shell_line::{LineFault, MAX_LINE};
 use crate::status::{NodeStatus, NodeTrouble, left_behind};
+use rr_explain::{ShellWord, push_help_lines, push_word_help, shell_words};
 use rr_text::Answer;
 use rr_text::text_word::{
     push_byte, push_bytes, push_number, push_number_word, push_reply, push_set, push_word,
@@ -300,26 +301,79 @@ pub fn push_status(out: &mut Vec<u8>, status: &NodeStatus) -> Result<(), AllocEr
     push_byte(out, b'\n')
 }
 
-/// Appends the commands.
-pub(crate) fn push_help_text(out: &mut Vec<u8>) -> Result<(), AllocError>
-    ensures ok { OnOk result (out.new.items ≡ out.old.items ++ help_text) }
+// Appends the forms of all commands.
+fn push_forms(out: &mut Vec<u8>) -> Result<(), AllocError>
+    ensures ok { OnOk result (out.new.items ≡ out.old.items ++ forms_text) }
 {
     push_bytes(out, OpKind::forms().as_bytes())?;
     push_bytes(
         out,
-        b", look NAME, list [PREFIX], watch [PREFIX], sync, at NODE, stop NODE, start NODE, snapshot NODE, status, again, help, quit or exit",
+        b", look NAME, list [PREFIX], watch [PREFIX], sync, at NODE, stop NODE, start NODE, snapshot NODE, status, again, help [COMMAND], quit or exit",
     )
 }
 
-/// Appends the line that names the commands.
+// Appends an example of a command behind how it is used.
+fn push_example(out: &mut Vec<u8>, word: ShellWord) -> Result<(), AllocError>
+    ensures ok { OnOk result (out.new.items ≡ out.old.items ++ example_text word) }
+{
+    push_bytes(out, b"; for example: ")?;
+    push_bytes(out, word.example().as_bytes())
+}
+
+// Appends how a command is used, and an example in the same line.
+fn push_use(out: &mut Vec<u8>, word: ShellWord) -> Result<(), AllocError>
+    ensures ok { OnOk result (out.new.items ≡ out.old.items ++ use_text word) }
+{
+    push_word_help(out, word)?;
+    push_example(out, word)
+}
+
+/// Appends the commands, or how one is used.
+pub(crate) fn push_help_text(out: &mut Vec<u8>, word: Option<ShellWord>) -> Result<(), AllocError>
+    ensures ok { OnOk result (out.new.items ≡ out.old.items ++ help_text word) }
+{
+    match word {
+        None => push_forms(out),
+        Some(word) => push_use(out, word),
+    }
+}
+
+// Appends a line for each command.
+fn push_all_help(out: &mut Vec<u8>) -> Result<(), AllocError>
+    ensures ok { OnOk result (out.new.items ≡ out.old.items ++ all_lines) }
+{
+    let words = shell_words();
+    push_help_lines(out, &words)
+}
+
+// Appends the end of a line, and a line with an example of a command.
+fn push_example_line(out: &mut Vec<u8>, word: ShellWord) -> Result<(), AllocError>
+    ensures ok { OnOk result (out.new.items ≡ out.old.items ++ example_line word) }
+{
+    push_bytes(out, b"\nfor example: ")?;
+    push_bytes(out, word.example().as_bytes())?;
+    push_byte(out, b'\n')
+}
+
+// Appends the line of how a command is used, and one with an example.
+fn push_use_lines(out: &mut Vec<u8>, word: ShellWord) -> Result<(), AllocError>
+    ensures ok { OnOk result (out.new.items ≡ out.old.items ++ use_lines word) }
+{
+    push_word_help(out, word)?;
+    push_example_line(out, word)
+}
+
+/// Appends the lines that tell the commands, or how one is used.
 ///
 /// # Errors
-/// Bytes of the line may then stand at the end.
-pub fn push_help(out: &mut Vec<u8>) -> Result<(), AllocError>
-    ensures ok { OnOk result (out.new.items ≡ out.old.items ++ help_line) }
+/// Bytes of the lines may then stand at the end.
+pub fn push_help(out: &mut Vec<u8>, word: Option<ShellWord>) -> Result<(), AllocError>
+    ensures ok { OnOk result (out.new.items ≡ out.old.items ++ help_lines word) }
 {
-    push_help_text(out)?;
-    push_byte(out, b'\n')
+    match word {
+        None => push_all_help(out),
+        Some(word) => push_use_lines(out, word),
+    }
 }
 
 fn push_no_node(out: &mut Vec<u8>, nodes: Nodes) -> Result<(), AllocError>
@@ -329,15 +383,65 @@ fn push_no_node(out: &mut Vec<u8>, nodes: Nodes) -> Result<(), AllocError>
     push_number_word(out, u64::from(nodes.count()))
 }
 
-fn push_no_command(out: &mut Vec<u8>) -> Result<(), AllocError>
-    ensures ok { OnOk result (out.new.items ≡ out.old.items ++ no_command_text) }
+// Appends the words of all commands.
+fn push_words(out: &mut Vec<u8>) -> Result<(), AllocError>
+    ensures ok { OnOk result (out.new.items ≡ out.old.items ++ words_text) }
 {
-    push_bytes(out, b"no such command: ")?;
     push_bytes(out, OpKind::words().as_bytes())?;
     push_bytes(
         out,
         b", look, list, watch, sync, at, stop, start, snapshot, status, again, help, quit or exit is expected",
     )
+}
+
+// Appends which command was meant.
+fn push_meant(out: &mut Vec<u8>, word: ShellWord) -> Result<(), AllocError>
+    ensures ok { OnOk result (out.new.items ≡ out.old.items ++ meant_text word) }
+{
+    push_bytes(out, b"did you mean `")?;
+    push_bytes(out, word.word().as_bytes())?;
+    push_bytes(out, b"`?")
+}
+
+fn push_no_command(out: &mut Vec<u8>, meant: Option<ShellWord>) -> Result<(), AllocError>
+    ensures ok { OnOk result (out.new.items ≡ out.old.items ++ no_command_text meant) }
+{
+    push_bytes(out, b"no such command: ")?;
+    match meant {
+        None => push_words(out),
+        Some(word) => push_meant(out, word),
+    }
+}
+
+// Appends how a command is written, behind what is wrong.
+fn push_form(out: &mut Vec<u8>, word: ShellWord) -> Result<(), AllocError>
+    ensures ok { OnOk result (out.new.items ≡ out.old.items ++ form_behind word) }
+{
+    push_bytes(out, b"; the form is `")?;
+    push_bytes(out, word.form().as_bytes())?;
+    push_byte(out, b'`')
+}
+
+// Appends that no name stands where this command wants one.
+fn push_no_name(out: &mut Vec<u8>, word: ShellWord) -> Result<(), AllocError>
+    ensures ok { OnOk result (out.new.items ≡ out.old.items ++ no_name_text word) }
+{
+    push_bytes(
+        out,
+        b"no name: 1 to 64 bytes of a to z, 0 to 9 and - are expected",
+    )?;
+    push_form(out, word)
+}
+
+// Appends that what stands where this command has a value is none.
+fn push_no_value(out: &mut Vec<u8>, word: ShellWord) -> Result<(), AllocError>
+    ensures ok { OnOk result (out.new.items ≡ out.old.items ++ no_value_text word) }
+{
+    push_bytes(
+        out,
+        b"no value: 0 to 64 bytes from ! to ~ are expected, and no space",
+    )?;
+    push_form(out, word)
 }
 
 /// Appends what is wrong with a line, and what is expected.
@@ -349,17 +453,21 @@ pub(crate) fn push_fault_text(
     ensures ok { OnOk result (out.new.items ≡ out.old.items ++ fault_text nodes fault) }
 {
     match fault {
-        LineFault::NoCommand => push_no_command(out),
-        LineFault::BadName => push_bytes(
-            out,
-            b"no name: 1 to 64 bytes of a to z, 0 to 9 and - are expected",
-        ),
-        LineFault::BadValue => push_bytes(
-            out,
-            b"no value: 1 to 64 bytes from ! to ~ are expected, and no space",
-        ),
-        LineFault::BadOwner => push_bytes(out, b"no owner: a number below 4294967296 is expected"),
-        LineFault::NoNode => push_no_node(out, nodes),
+        LineFault::NoCommand(meant) => push_no_command(out, meant),
+        LineFault::BadName(word) => push_no_name(out, word),
+        LineFault::BadValue(word) => push_no_value(out, word),
+        LineFault::BadOwner(word) => {
+            push_bytes(out, b"no owner: a number below 4294967296 is expected")?;
+            push_form(out, word)
+        }
+        LineFault::NoNode(word) => {
+            push_no_node(out, nodes)?;
+            push_form(out, word)
+        }
+        LineFault::Behind(word) => {
+            push_bytes(out, b"too many words")?;
+            push_form(out, word)
+        }
         LineFault::TooLong => {
             push_bytes(out, b"too long a line: at most 4096 bytes are expected")
         }

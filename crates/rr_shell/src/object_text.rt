@@ -12,6 +12,7 @@ use crate::listing::Listing;
 use crate::outcome::{push_full_text, push_nothing_text, push_used_text};
 use crate::shell_line::LineFault;
 use crate::status::{NodeStatus, NodeTrouble, left_behind};
+use rr_explain::ShellWord;
 use rr_json::{
     push_end, push_escaped, push_label, push_number_member, push_open, push_text_member,
     push_words_member,
@@ -287,11 +288,11 @@ pub fn push_trouble_object(
 ///
 /// # Errors
 /// Bytes of the line may then stand at the end.
-pub fn push_help_object(out: &mut Vec<u8>) -> Result<(), AllocError>
-    ensures ok { OnOk result (out.new.items ≡ out.old.items ++ text_object (codes "help") help_text) }
+pub fn push_help_object(out: &mut Vec<u8>, word: Option<ShellWord>) -> Result<(), AllocError>
+    ensures ok { OnOk result (out.new.items ≡ out.old.items ++ text_object (codes "help") (help_text word)) }
 {
     push_text_open(out, b"help")?;
-    push_help_text(out)?;
+    push_help_text(out, word)?;
     push_text_close(out)
 }
 

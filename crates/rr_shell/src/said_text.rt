@@ -18,6 +18,7 @@ use crate::object_text::{
 use crate::outcome::{Outcome, push_full_text, push_nothing_text, push_used_text};
 use crate::shell_line::LineFault;
 use crate::status::{NodeStatus, NodeTrouble};
+use rr_explain::ShellWord;
 use rr_text::Answer;
 use rr_text::text_word::{push_byte, push_bytes};
 use rr_types::{Binding, Command, Name, NodeId, Nodes};
@@ -286,17 +287,17 @@ pub fn say_status(out: &mut Vec<u8>, json: bool, status: &NodeStatus) -> Result<
     }
 }
 
-/// Appends the commands.
+/// Appends the commands, or how one is used.
 ///
 /// # Errors
-/// Bytes of the line may then stand at the end.
-pub fn say_help(out: &mut Vec<u8>, json: bool) -> Result<(), AllocError>
-    ensures ok { OnOk result (out.new.items ≡ out.old.items ++ help_said json) }
+/// Bytes of the lines may then stand at the end.
+pub fn say_help(out: &mut Vec<u8>, json: bool, word: Option<ShellWord>) -> Result<(), AllocError>
+    ensures ok { OnOk result (out.new.items ≡ out.old.items ++ help_said json word) }
 {
     if json {
-        push_help_object(out)
+        push_help_object(out, word)
     } else {
-        push_help(out)
+        push_help(out, word)
     }
 }
 

@@ -17,6 +17,7 @@ use crate::shell_line::{LineFault, ShellLine};
 use crate::status::NodeTrouble;
 use crate::troubles::{Trouble, answer_trouble, listing_trouble, outcome_trouble, sync_trouble};
 use crate::watching::Watched;
+use rr_explain::ShellWord;
 use rr_text::Answer;
 use rr_types::{Name, NodeId, Nodes, Op, Refusal, Reply, Value, made_of};
 use std::alloc::Global;
@@ -194,11 +195,11 @@ fn stated<A: Asked>(
     })
 }
 
-fn helped(alloc: Global, json: bool, node: NodeId) -> Result<Said, Refusal>
-    ensures { IfOk result (λ s. (s.node ≡ node) × (s.text.items ≡ help_said json) × (s.trouble ≡ None) × (s.watched ≡ None)) }
+fn helped(alloc: Global, json: bool, node: NodeId, word: Option<ShellWord>) -> Result<Said, Refusal>
+    ensures { IfOk result (λ s. (s.node ≡ node) × (s.text.items ≡ help_said json word) × (s.trouble ≡ None) × (s.watched ≡ None)) }
 {
     let mut text = Vec::new(alloc);
-    say_help(&mut text, json)?;
+    say_help(&mut text, json, word)?;
     let trouble = None;
     Ok(Said {
         node,
@@ -307,7 +308,7 @@ pub fn said_to_request<A: Asked>(
             }
         }
         ShellLine::Status => Ok(Some(stated(alloc, json, nodes, node, asked)?)),
-        ShellLine::Help => Ok(Some(helped(alloc, json, node)?)),
+        ShellLine::Help(word) => Ok(Some(helped(alloc, json, node, *word)?)),
         ShellLine::Quit => Ok(None),
     }
 }

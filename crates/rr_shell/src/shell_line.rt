@@ -1,5 +1,6 @@
 //! What a line of a shell asks for, or why it asks for nothing.
 
+use rr_explain::ShellWord;
 use rr_types::{Name, NodeId, Op};
 
 /// The most bytes of a line, without its line feed.
@@ -30,25 +31,27 @@ pub enum ShellLine {
     Status,
     /// The last command that wasn't acknowledged is submitted once more, under its request number.
     Again,
-    /// The commands that there are.
-    Help,
+    /// How this command is used, or which ones there are.
+    Help(Option<ShellWord>),
     /// The end of the shell.
     Quit,
 }
 
-/// Why a line asks for nothing.
-#[derive(Clone, Copy, Debug, PartialEq, Eq)]
+/// Why a line asks for nothing. It names the command that the line is of.
+#[derive(Clone, Copy, Debug)]
 pub enum LineFault {
-    /// Its first word is no command.
-    NoCommand,
-    /// No name stands where one is expected, or something stands behind it.
-    BadName,
+    /// Its first word is no command. This one was meant, if one was.
+    NoCommand(Option<ShellWord>),
+    /// No name stands where one is expected.
+    BadName(ShellWord),
     /// What stands behind the name is no value.
-    BadValue,
+    BadValue(ShellWord),
     /// No client's number stands behind the name.
-    BadOwner,
+    BadOwner(ShellWord),
     /// It names no node that there is.
-    NoNode,
+    NoNode(ShellWord),
+    /// Something stands behind what the command takes.
+    Behind(ShellWord),
     /// It has more bytes than a line may have.
     TooLong,
 }

@@ -8,14 +8,14 @@ ghost use Rattle.rr_shell.specs.Talks.{IsSaidTo, IsTurn, ending_trouble, Talks};
 
 use crate::answering::{Asked, Hint};
 use crate::hearing::{Heard, hear};
-use crate::line_read::read_shell_line;
+use crate::line_read::{read_shell_line, tidied};
 use crate::prompting::Prompting;
 use crate::saying::{Said, faulted, said_to_request};
-use crate::shell_line::LineFault;
+use crate::shell_line::{LineFault, ShellLine};
 use crate::troubles::Trouble;
 use crate::watching::{Watched, watch_and_hear};
 use rr_stream::{Sink, print_all};
-use rr_types::{NodeId, Nodes, Refusal};
+use rr_types::{NodeId, Nodes, Op, Refusal};
 use std::alloc::Global;
 use std::io;
 use std::thread::Threads;
@@ -67,7 +67,9 @@ fn said_to<A: Asked>(
         Heard::TooLong => return Ok(Some(faulted(alloc, json, nodes, node, LineFault::TooLong)?)),
         Heard::End => return Ok(None),
     };
-    if let [] = line {
+    let words = tidied(alloc, line)?;
+    let words = words.as_slice();
+    if let [] = words {
         return Ok(Some(Said {
             node,
             text: Vec::new(alloc),
@@ -75,9 +77,44 @@ fn said_to<A: Asked>(
             watched: None,
         }));
     }
-    match read_shell_line(nodes, line) {
+    match read_shell_line(nodes, words) {
         Ok(line) => said_to_request(alloc, json, nodes, node, asked, &line),
         Err(fault) => Ok(Some(faulted(alloc, json, nodes, node, fault)?)),
+    }
+}
+
+// Whether a line sets the empty value.
+fn sets_empty(line: &ShellLine) -> bool {
+    match line {
+        ShellLine::Submit(Op::Claim(_, value)) => value.as_bytes().is_empty(),
+        ShellLine::Submit(Op::Update(_, value)) => value.as_bytes().is_empty(),
+        _ => false,
+    }
+}
+
+// Shows that a line has set the empty value, since it has none, where somebody types.
+fn show_empty<I: Prompting>(
+    alloc: Global,
+    nodes: Nodes,
+    trouble: Option<Trouble>,
+    heard: &Heard,
+    input: &mut I,
+)
+    ensures { I.reading input.new ≡ I.reading input.old }
+{
+    if trouble.is_some() {
+        return;
+    }
+    let Heard::Line(line) = heard else {
+        return;
+    };
+    let Ok(words) = tidied(alloc, without_return(line.as_slice())) else {
+        return;
+    };
+    if let Ok(line) = read_shell_line(nodes, words.as_slice()) {
+        if sets_empty(&line) {
+            input.show(b"the value is empty, as none was given\n");
+        }
     }
 }
 
@@ -164,6 +201,7 @@ fn take_turn<I: Prompting, O: Sink + Send, A: Asked + Send, R: Threads>(
     if let Err(error) = print_all(out, text.as_slice()) {
         return Err(Stop::Unprinted(error));
     }
+    show_empty(alloc, nodes, trouble, &heard, input);
     if let Some(hint) = asked.hint() {
         show_hint(alloc, input, hint);
     }

@@ -27,10 +27,12 @@ pub enum Trouble {
     ListFull,
     /// An error was answered.
     Error,
+    /// A look saw that nobody has the name.
+    Free,
 }
 
 impl Trouble {
-    /// The status of a shell that ends for this, from 10 to 17.
+    /// The status of a shell that ends for this, from 10 to 18.
     pub fn status(self) -> u8
         ensures { result ≡ strict_status self }
     {
@@ -43,6 +45,7 @@ impl Trouble {
             Trouble::Unseen => 15,
             Trouble::ListFull => 16,
             Trouble::Error => 17,
+            Trouble::Free => 18,
         }
     }
 }
@@ -66,7 +69,8 @@ pub fn answer_trouble(answer: &Answer) -> Option<Trouble>
     match answer {
         Answer::Acknowledged { reply, .. } => reply_trouble(*reply),
         Answer::Unacknowledged { .. } => Some(Trouble::Unacknowledged),
-        Answer::Free { .. } | Answer::Bound { .. } => None,
+        Answer::Free { .. } => Some(Trouble::Free),
+        Answer::Bound { .. } => None,
         Answer::Unseen { .. } => Some(Trouble::Unseen),
     }
 }

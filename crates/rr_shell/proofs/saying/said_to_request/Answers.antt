@@ -43,7 +43,7 @@ pub returns-in_ok-stated-in-Status : goal.returns-in_ok-stated-in-Status
 returns-in_ok-stated-in-Status g c = rw (c.in-Status.is, c.in_ok-stated-in-Status.ensures.0, c.in_ok-stated-in-Status.ensures.2, c.in_ok-stated-in-Status.ensures.3) (stated c.in_ok-stated-in-Status.field-0.text.items c.in_ok-stated-in-Status.ensures.1)
 
 pub returns-in_ok-helped-in-Help : goal.returns-in_ok-helped-in-Help
-returns-in_ok-helped-in-Help g c = rw (c.in-Help.is, c.in_ok-helped-in-Help.ensures.0, c.in_ok-helped-in-Help.ensures.1, c.in_ok-helped-in-Help.ensures.2, c.in_ok-helped-in-Help.ensures.3) helped
+returns-in_ok-helped-in-Help g c = rw (c.in-Help.is, c.in_ok-helped-in-Help.ensures.0, c.in_ok-helped-in-Help.ensures.1, c.in_ok-helped-in-Help.ensures.2, c.in_ok-helped-in-Help.ensures.3) (helped c.in-Help.word)
 
 pub returns-in-Watch : goal.returns-in-Watch
 returns-in-Watch g c = rw (c.in-Watch.is, c.new.ensures.items) (watches c.in-Watch.prefix)

@@ -2,7 +2,7 @@ use Rattle.std.proofs.Common.{◌∙◌, ◌++◌, List, ℕ, map, ap}
 use Rattle.std.proofs.lemmas.Result.{on_ok_weaker}
 use Rattle.rr_types.specs.Commands.{listed, op_form, op_kinds}
 use Rattle.rr_shell.proofs.TextLemmas.{in_parts}
-use Rattle.rr_shell.proofs.line_text.push_help_text.Goals as goal
+use Rattle.rr_shell.proofs.line_text.push_forms.Goals as goal
 
 pub returns : goal.returns
 returns c =

@@ -1,0 +1,14 @@
+use Rattle.std.proofs.Common.{◌∙◌, ◌++◌, List, ℕ, ap}
+use Rattle.std.proofs.lemmas.Result.{on_ok_weaker}
+use Rattle.rr_explain.specs.ShellWords.{word_example}
+use Rattle.rr_shell.proofs.TextLemmas.{in_parts}
+use Rattle.rr_shell.proofs.line_text.push_example.Goals as goal
+
+pub returns : goal.returns
+returns c =
+    record {
+      ok = on_ok_weaker c.push_bytes-2.result
+          (λ grew. in_parts c.args.out.now.items _ (word_example c.args.word) c.push_bytes.new.out.items c.push_bytes-2.new.out.items c.in_ok-push_bytes.ensures.ok
+          (grew ∙ ap (λ (l : List ℕ). c.push_bytes.new.out.items ++ l) (c.as_bytes.ensures.value ∙ c.example.ensures)))
+          c.push_bytes-2.ensures.ok;
+    }

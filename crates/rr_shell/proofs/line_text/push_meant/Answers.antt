@@ -1,0 +1,15 @@
+use Rattle.std.proofs.Common.{◌∙◌, ◌++◌, List, ℕ, ap}
+use Rattle.std.proofs.lemmas.Result.{on_ok_weaker}
+use Rattle.rr_explain.specs.ShellWords.{word_text}
+use Rattle.rr_shell.proofs.TextLemmas.{in_three}
+use Rattle.rr_shell.proofs.line_text.push_meant.Goals as goal
+
+pub returns : goal.returns
+returns c =
+    record {
+      ok = on_ok_weaker c.push_bytes-3.result
+          (in_three c.args.out.now.items _ (word_text c.args.word) _ c.push_bytes.new.out.items c.push_bytes-2.new.out.items c.push_bytes-3.new.out.items
+          c.in_ok-push_bytes.ensures.ok
+          (c.in_ok-push_bytes-2.ensures.ok ∙ ap (λ (l : List ℕ). c.push_bytes.new.out.items ++ l) (c.as_bytes.ensures.value ∙ c.word.ensures)))
+          c.push_bytes-3.ensures.ok;
+    }
