@@ -175,9 +175,13 @@ migrate_line =
 unfoldable pub verify_line : App
 verify_line = with_arg (with_arg (new_app (codes "verify")) (word_rule (codes "DIR") true)) (flag_rule (codes "JSON") (codes "json"))
 
--- the subcommand export, with a DIR and the option for the decided list
+-- the subcommand export, with a DIR and the options for the decided list and for JSON
 unfoldable pub export_line : App
-export_line = with_arg (with_arg (new_app (codes "export")) (word_rule (codes "DIR") true)) (flag_rule (codes "LIST") (codes "list"))
+export_line =
+    with_arg (with_arg (with_arg (new_app (codes "export"))
+    (word_rule (codes "DIR") true))
+    (flag_rule (codes "LIST") (codes "list")))
+    (flag_rule (codes "JSON") (codes "json"))
 
 -- a command with a version
 unfoldable pub with_version : App → App

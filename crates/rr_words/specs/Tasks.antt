@@ -1,5 +1,5 @@
 -- What words ask for.
-use Rattle.std.specs.Prelude.{List, [], Bool, false, ◌||◌, Option, None, Some, codes, if◌then◌else◌, map, option_map, unwrap_or}
+use Rattle.std.specs.Prelude.{List, [], Bool, true, false, ◌||◌, Option, None, Some, codes, if◌then◌else◌, map, option_map, unwrap_or}
 use Rattle.std.specs.Option.{option_map_or}
 use Rattle.std.specs.Str.{bytes_eq}
 use Rattle.clap.specs.Words.{Row, Text, all_of, first_of, subcommand_of}
@@ -15,6 +15,8 @@ use Rattle.rr_words.specs.declared.tasks.Form.{Form}
 use Rattle.rr_words.specs.declared.tasks.Form.TheVariants.{Plain, Json}
 use Rattle.rr_words.specs.declared.tasks.Task as code
 use Rattle.rr_words.specs.declared.tasks.Task.TheVariants as read
+use Rattle.rr_words.specs.declared.tasks.Exported.{Exported}
+use Rattle.rr_words.specs.declared.tasks.Exported.TheVariants as export
 use Rattle.rr_words.specs.declared.tasks.View as view
 use Rattle.rr_words.specs.declared.tasks.View.TheVariants as shown
 
@@ -81,7 +83,7 @@ pub data View : Type 0 where
 -- of the schedule in this file or else in standard input, with this seed, which only wrong words leave out; or the picture of the
 -- schedule in this file or else in standard input, of the cut that these words write; or an opening of the disk in this folder as
 -- that of this node of so many, all of which only wrong words leave out, and its areas then; or whether the folders in this
--- folder agree; or the registry that they have decided as a script, or else the decided list
+-- folder agree; or the registry that they have decided as a script, or else the decided list, or one of them as JSON
 pub data Task : Type 0 where
   Simulate : Option Text → Task
   Viewing : View → Task
@@ -94,7 +96,7 @@ pub data Task : Type 0 where
   Draw : Option Text → CutWords → Task
   Migrate : Option Text → Option Text → Option Text → Task
   Verify : Option Text → Form → Task
-  Export : Option Text → Bool → Task
+  Export : Option Text → Exported → Task
 
 -- the file that a word names; none, which stands for standard input, where the word is a hyphen or isn't there
 abbrev pub file_of : Option Text → Option Text
@@ -205,8 +207,18 @@ migrate_task rows = Migrate (first_of (codes "DIR") rows) (first_of (codes "NODE
 abbrev pub verify_task : List Row → Task
 verify_task rows = Verify (first_of (codes "DIR") rows) (form_of rows)
 
+-- what is exported, by whether it is the decided list, and whether it is JSON
+abbrev pub exported_by : Bool → Bool → Exported
+exported_by false false = export.Claims
+exported_by true false = export.List
+exported_by false true = export.Names
+exported_by true true = export.Commands
+
+abbrev pub export_of : List Row → Exported
+export_of rows = exported_by (is_set (codes "LIST") rows) (is_set (codes "JSON") rows)
+
 abbrev pub export_task : List Row → Task
-export_task rows = Export (first_of (codes "DIR") rows) (is_set (codes "LIST") rows)
+export_task rows = Export (first_of (codes "DIR") rows) (export_of rows)
 
 -- what a subcommand of this name and these arguments asks for, other than shell
 abbrev pub other_task_by : Text × List Row → Task

@@ -168,7 +168,7 @@ fn tick_arg<'a>(alloc: Global) -> Arg<'a>
         alloc,
         "TICK",
         "tick",
-        "How many milliseconds are between two ticks of a node, from 10 to 10000 [default: 50]",
+        "Milliseconds between two ticks of a node, from 10 to 10000 [default: 50]",
         LEAST_TICK,
         MOST_TICK,
     )
@@ -286,7 +286,13 @@ fn export_line<'a>(alloc: Global) -> Result<Command<'a>, AllocError>
         helps::export(),
     )
     .arg(word_arg(alloc, "DIR", "The folder of the nodes' folders", true))?
-    .arg(flag_arg(alloc, "LIST", "list", "Prints the decided list instead"))
+    .arg(flag_arg(alloc, "LIST", "list", "Prints the decided list instead"))?
+    .arg(flag_arg(
+        alloc,
+        "JSON",
+        "json",
+        "Prints an object of JSON for each name or command",
+    ))
 }
 
 // The command line of `rr random`, with its seed, its steps and its nodes.
@@ -536,7 +542,7 @@ fn migrate_line<'a>(alloc: Global) -> Result<Command<'a>, AllocError>
     bare_line(
         alloc,
         "migrate",
-        "Opens the folder of a node, brings it to version 2 if need be, and tells what its areas hold",
+        "Opens a node's folder, brings it to version 2 if need be, and tells what its areas hold",
         helps::migrate(),
     )
     .arg(word_arg(alloc, "DIR", "The folder of the node", true))?

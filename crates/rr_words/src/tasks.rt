@@ -2,7 +2,7 @@
 
 ghost use Rattle.std.specs.Prelude.{◌≡◌, [], IfOk, map, option_map, unwrap_or};
 ghost use Rattle.clap.specs.Words.{all_of, first_of, found_of, rows_of};
-ghost use Rattle.rr_words.specs.Tasks.{file_of, is_set, form_of, cut_words_of, cut_words_in, finish_view, simulate_task, told_task, stats_task, audit_task, check_task, random_task, run_task, shell_task, sweep_task, draw_task, migrate_task, other_task_by, task_by, task_in, verify_task, export_task};
+ghost use Rattle.rr_words.specs.Tasks.{file_of, is_set, form_of, cut_words_of, cut_words_in, finish_view, simulate_task, told_task, stats_task, audit_task, check_task, random_task, run_task, shell_task, sweep_task, draw_task, migrate_task, other_task_by, task_by, task_in, verify_task, export_of, export_task};
 
 use clap::ArgMatches;
 use std::alloc::{AllocError, Global};
@@ -107,6 +107,19 @@ pub enum View<'a> {
     TapeStatistics(Form, Option<&'a str>),
 }
 
+/// What is exported of a cluster, and how.
+#[derive(Clone, Copy, Debug, PartialEq, Eq)]
+pub enum Exported {
+    /// Its registry, as a script of claims.
+    Claims,
+    /// Its decided list.
+    List,
+    /// Its registry, an object of JSON for each name.
+    Names,
+    /// Its decided list, an object of JSON for each command.
+    Commands,
+}
+
 /// What words ask for.
 #[derive(Debug, Drop)]
 pub enum Task<'a> {
@@ -138,9 +151,9 @@ pub enum Task<'a> {
     Migrate(Option<&'a str>, Option<&'a str>, Option<&'a str>),
     /// `rr verify DIR [--json]`: whether the nodes' folders in this folder agree, and what each of them holds.
     Verify(Option<&'a str>, Form),
-    /// `rr export DIR [--list]`: the registry that the nodes' folders in this folder have decided, as a script; or else the
-    /// decided list.
-    Export(Option<&'a str>, bool),
+    /// `rr export DIR [--list] [--json]`: the registry that the nodes' folders in this folder have decided, as a script; or else the
+    /// decided list; or one of them as JSON.
+    Export(Option<&'a str>, Exported),
 }
 
 // The file that a word names. None means standard input: the word is a hyphen or isn't there.
@@ -368,11 +381,23 @@ fn verify_task<'a>(matches: &ArgMatches<'a>) -> Task<'a>
     Task::Verify(word_of(matches, "DIR"), form_of(matches))
 }
 
+// What is exported.
+fn export_of(matches: &ArgMatches<'_>) -> Exported
+    ensures { result ≡ export_of (rows_of (found_of matches.now)) }
+{
+    match (is_set(matches, "LIST"), is_set(matches, "JSON")) {
+        (false, false) => Exported::Claims,
+        (true, false) => Exported::List,
+        (false, true) => Exported::Names,
+        (true, true) => Exported::Commands,
+    }
+}
+
 // What `rr export` is asked for.
 fn export_task<'a>(matches: &ArgMatches<'a>) -> Task<'a>
     ensures { task_in result ≡ export_task (rows_of (found_of matches.now)) }
 {
-    Task::Export(word_of(matches, "DIR"), is_set(matches, "LIST"))
+    Task::Export(word_of(matches, "DIR"), export_of(matches))
 }
 
 // What a subcommand of this name, other than `shell`, is asked for.

@@ -5,4 +5,4 @@ use Rattle.rr_words.proofs.lines.export_line.Goals as goal
 
 pub returns : goal.returns
 unfolding export_line
-returns c = IfOk-weaker c.arg-2.result _ _ (λ r added. adds_arg (adds_arg c.bare_line.ensures c.in_ok-arg.ensures c.word_arg.ensures) added c.flag_arg.ensures) c.arg-2.ensures
+returns c = IfOk-weaker c.arg-3.result _ _ (λ r added. adds_arg (adds_arg (adds_arg c.bare_line.ensures c.in_ok-arg.ensures c.word_arg.ensures) c.in_ok-arg-2.ensures c.flag_arg.ensures) added c.flag_arg-2.ensures) c.arg-3.ensures
