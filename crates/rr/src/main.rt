@@ -1,7 +1,7 @@
 //! The program `rr`: its words, its streams and its threads, handed to `rr_run`.
 #![tactic(auto)]
 
-use rr_explain::Shown;
+use rr_explain::{ReasonsFirst, Shown};
 use rr_run::run;
 use rr_shell::Prompted;
 use rr_stream::{Counted, HostFiles, Watched};
@@ -14,7 +14,18 @@ fn words_of(rt: &HostRuntime) -> io::Result<Vec<String>> {
     Ok(words)
 }
 
+// Whether the words ask for JSON: then a program reads what is told, in the order of a pipe.
+fn is_json(words: &io::Result<Vec<String>>) -> bool {
+    match words {
+        Ok(words) => words.iter().any(|word| word.as_str() == "--json"),
+        Err(_) => false,
+    }
+}
+
 fn main(rt: HostRuntime) -> ExitCode {
+    let words = words_of(&rt);
+    let is_seen = rt.stderr().is_terminal() && !is_json(&words);
+    let mut err = ReasonsFirst::new(Shown::new(rt.stderr()), is_seen);
     let people = if rt.stderr().is_terminal() {
         Some(rt.stderr())
     } else {
@@ -29,12 +40,14 @@ fn main(rt: HostRuntime) -> ExitCode {
     } else {
         None
     };
-    ExitCode::from(run(
+    let status = run(
         &rt,
-        words_of(&rt),
+        words,
         &mut HostFiles::new(&rt),
         &mut Prompted::new(Counted::new(rt.stdin()), typing),
         &mut Watched::new(Counted::new(rt.stdout()), people),
-        &mut Shown::new(rt.stderr()),
-    ))
+        &mut err,
+    );
+    err.finish();
+    ExitCode::from(status)
 }

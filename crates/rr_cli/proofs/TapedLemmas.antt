@@ -11,7 +11,7 @@ use Rattle.rr_audit.specs.Audits.{IsVerdict}
 use Rattle.rr_audit.specs.declared.given.Given.{Given}
 use Rattle.rr_audit.specs.declared.auditing.Verdict.TheVariants.{Yes, No}
 use Rattle.rr_stream.specs.Streams.{Printing}
-use Rattle.rr_cli.specs.Ends.{Prints, EndsOnTaped, taped, strange, untaped}
+use Rattle.rr_cli.specs.Ends.{PrintsShown, EndsOnTaped, taped, strange, untaped}
 use Rattle.rr_cli.specs.Recognised.{IsRecognised, IsTextOf}
 use Rattle.rr_cli.specs.Refusals.{status_of}
 use Rattle.rr_cli.specs.Shown.{ShowsTape}
@@ -63,7 +63,7 @@ is_schedule bytes schedule read = record { schedule = schedule; lawful = read.0;
 
 -- its text was printed
 pub taped_ends : (what : TapeView) (bytes : List ℕ) (tape : Taped) (count : ℕ) (text : List ℕ) (status : ℕ) (old new : Printing) → IsTextOf tape bytes → IsVerdict tape.nodes tape.events (Yes count) → ShowsTape what tape text
-    → Prints text status old new → EndsOnTaped what bytes status old new
+    → PrintsShown what text status old new → EndsOnTaped what bytes status old new
 taped_ends what bytes tape count text status old new of verdict shows prints = taped tape text of verdict.1 verdict.2 shows prints
 
 -- an event of it isn't next

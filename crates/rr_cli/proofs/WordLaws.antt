@@ -1,9 +1,10 @@
 -- Words that ask for no view.
-use Rattle.std.proofs.Common.{◌≡◌, Bool, [], Option, subst}
+use Rattle.std.proofs.Common.{◌≡◌, [], Option, subst}
 use Rattle.clap.specs.Words.{Text}
 use Rattle.clap.specs.Kinds.{Kinds, IsAmong}
 use Rattle.clap.specs.declared.error.kind.ErrorKind.{ErrorKind}
 use Rattle.rr_words.specs.Tasks.{CutWords, RandomWords, ShellWords, View, Simulate, Viewing, Show, Random, Audit, Run, Shell, Sweep, Draw, Migrate, Verify, Export}
+use Rattle.rr_words.specs.declared.tasks.Exported.{Exported}
 use Rattle.rr_words.specs.declared.tasks.Form.{Form}
 
 -- no kind is among none
@@ -40,5 +41,5 @@ no_migrate folder seat nodes view is = absurd cc
 pub no_verify : (dir : Option Text) (form : Form) (view : View) → Verify dir form ≡ Viewing view → ⊥
 no_verify dir form view is = absurd cc
 
-pub no_export : (dir : Option Text) (list : Bool) (view : View) → Export dir list ≡ Viewing view → ⊥
-no_export dir list view is = absurd cc
+pub no_export : (dir : Option Text) (what : Exported) (view : View) → Export dir what ≡ Viewing view → ⊥
+no_export dir what view is = absurd cc

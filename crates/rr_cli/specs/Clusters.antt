@@ -1,14 +1,21 @@
 -- The folders of a cluster, as `rr verify` and `rr export` read them, and what an export is.
-use Rattle.std.specs.Prelude.{◌≡◌, ◌⊎◌, ℕ, zero, suc, ◌≤◌, Bool, true, false, List, [], ◌∷◌, ◌++◌, length, codes, decimal}
-use Rattle.std.specs.List.{AllByRecursion}
+use Rattle.std.specs.Prelude.{◌≡◌, ◌⊎◌, ℕ, zero, suc, ◌≤◌, List, [], ◌∷◌, ◌++◌, length, codes, decimal}
+use Rattle.std.specs.List.{AllByRecursion, flat_map}
 use Rattle.rr_types.specs.declared.refusal.Refusal.TheVariants.{Device}
+use Rattle.rr_types.specs.declared.command.Op.{Op}
+use Rattle.rr_types.specs.declared.command.Op.TheVariants.{Claim}
 use Rattle.rr_types.specs.declared.command.Command.{Command}
 use Rattle.rr_types.specs.Limits.{max_nodes}
 use Rattle.rr_types.specs.Registry.{registry_of}
 use Rattle.rr_text.specs.ReportTexts.{line, decided_lines}
 use Rattle.rr_text.specs.declared.script_line.ScriptLine.{ScriptLine}
+use Rattle.rr_text.specs.declared.script_line.ScriptLine.TheVariants.{Submit, Look}
 use Rattle.rr_text.specs.Scripted.{IsScript}
 use Rattle.rr_text.specs.ScriptTexts.{script_text}
+use Rattle.rr_json.specs.Json.{text_member, words_member, number_member, object_line}
+use Rattle.rr_json.specs.Objects.{decided_objects}
+use Rattle.rr_words.specs.declared.tasks.Exported.{Exported}
+use Rattle.rr_words.specs.declared.tasks.Exported.TheVariants as export
 use Rattle.rr_words.specs.declared.tasks.Form.{Form}
 use Rattle.rr_words.specs.declared.tasks.Form.TheVariants.{Plain, Json}
 use Rattle.rr_folders.specs.declared.fields.Form as code
@@ -16,7 +23,7 @@ use Rattle.rr_folders.specs.declared.fields.Form.TheVariants as forms
 use Rattle.rr_folders.specs.declared.verify_folder.Reading.{Reading}
 use Rattle.rr_folders.specs.declared.verify_folder.Reading.TheVariants.{Facts, Blank, Refused}
 use Rattle.rr_folders.specs.Folders.{reading_of}
-use Rattle.rr_folders.specs.Exports.{commands_of}
+use Rattle.rr_folders.specs.Exports.{export_of, commands_of}
 
 -- what was read of a folder: areas of some bytes; or it couldn't be read
 abbrev pub IsRead : Reading → Type 0
@@ -43,11 +50,28 @@ abbrev pub form_in : Form → code.Form
 form_in Plain = forms.Words
 form_in Json = forms.Json
 
--- a text is the export of a decided list: the list itself as a report has it; or a script for each number of nodes, and the
--- commands that it submits give the same registry
-abbrev pub IsExportOf : Bool → List Command → List ℕ → Type 0
-IsExportOf true decided text = text ≡ line (codes "decided" ∷ decimal (length decided) ∷ []) ++ decided_lines 0 decided
-IsExportOf false decided text =
+-- a name, its owner and its value, as an object
+abbrev pub name_object : List ℕ → ℕ → List ℕ → List ℕ
+name_object name owner value =
+    object_line (codes "bound") (text_member (codes "name") name ++ number_member (codes "owner") owner ++ words_member (codes "value") value)
+
+-- what a command claims for its client, as an object
+abbrev pub claimed_object : ℕ → Op → List ℕ
+claimed_object client (Claim name value) = name_object name client value
+claimed_object client op = []
+
+-- what a line of a script claims, as an object
+abbrev pub claim_object : ScriptLine → List ℕ
+claim_object (Submit p c) = claimed_object c.request.client c.op
+claim_object (Look p name) = []
+
+-- a text is the export of a decided list: a script for each number of nodes, and the commands that it submits give the same registry;
+-- or an object for each claim of that script; or the list itself as a report has it, in words or as JSON
+abbrev pub IsExportOf : Exported → List Command → List ℕ → Type 0
+IsExportOf export.Claims decided text =
     (lines : List ScriptLine) × (text ≡ script_text lines)
     × ((n : ℕ) → 1 ≤ n → n ≤ max_nodes → IsScript (record { nodes = n; lines = lines }))
     × (registry_of (commands_of lines) ≡ registry_of decided)
+IsExportOf export.Names decided text = text ≡ flat_map claim_object (export_of (registry_of decided))
+IsExportOf export.List decided text = text ≡ line (codes "decided" ∷ decimal (length decided) ∷ []) ++ decided_lines 0 decided
+IsExportOf export.Commands decided text = text ≡ decided_objects decided

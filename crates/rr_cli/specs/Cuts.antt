@@ -1,5 +1,6 @@
 -- What the words of `rr draw` name.
-use Rattle.std.specs.Prelude.{◌≡◌, ◌≤◌, ℕ, ◌-◌, ◌^◌, Option, None, Some}
+use Rattle.std.specs.Prelude.{◌≡◌, ◌≤◌, ℕ, ◌-◌, ◌^◌, ◌==◌, Bool, false, not, ◌&&◌, ◌||◌, List, [], ◌∷◌, length, take, codes, Option, None, Some, is_none}
+use Rattle.std.specs.Str.{bytes_eq}
 use Rattle.clap.specs.Words.{Text}
 use Rattle.rr_draw.specs.declared.cut.Cut.{Cut}
 use Rattle.rr_cli.specs.Randoms.{IsNumberIn}
@@ -25,3 +26,20 @@ pub record IsCutBy (words : CutWords) (cut : Cut) : Type 0 where
   pub instance : IsNumberIfAny 0 1048575 words.instance cut.instance
   pub requests : cut.requests ≡ words.requests
   pub in_order : cut.from ≤ cut.to
+
+-- with what the element of an event begins
+abbrev pub event_mark : List ℕ
+event_mark = codes "<g><title>line "
+
+-- whether a picture has an event
+abbrev pub has_event : List ℕ → Bool
+has_event [] = false
+has_event (b ∷ bs) = bytes_eq event_mark (take (length event_mark) (b ∷ bs)) || has_event bs
+
+-- whether a cut leaves out no line, no node and no instance
+abbrev pub is_whole : Cut → Bool
+is_whole cut = (cut.from == 1 && cut.to == 2 ^ 64 - 1) && (is_none cut.node && is_none cut.instance)
+
+-- whether a cut that leaves something out has left no event in a picture
+abbrev pub shows_nothing : Cut → List ℕ → Bool
+shows_nothing cut text = not (is_whole cut) && not (has_event text)

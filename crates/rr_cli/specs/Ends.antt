@@ -31,10 +31,11 @@ use Rattle.rr_cli.specs.Areas.{areas_text, areas_in}
 use Rattle.rr_cli.specs.AuditObjects.{yes_object, no_object, no_status}
 use Rattle.rr_cli.specs.Randoms.{IsNumberIn, IsNumberOf, AreNumbers}
 use Rattle.rr_cli.specs.RandomObjects.{IsDrawnIn}
-use Rattle.rr_cli.specs.Cuts.{IsCutBy}
+use Rattle.rr_cli.specs.Cuts.{IsCutBy, shows_nothing}
 use Rattle.rr_lively.specs.declared.finish.Ending.{Ending}
 use Rattle.rr_cli.specs.Finishing.{finished_by, IsFinishedDraw}
 use Rattle.rr_words.specs.Tasks.{CutWords, RandomWords, ShellWords, View, Task, Simulate, Viewing, Show, Random, Audit, Run, Shell, Sweep, Draw, Migrate, Verify, Export}
+use Rattle.rr_words.specs.declared.tasks.Exported.{Exported}
 use Rattle.rr_words.specs.declared.tasks.Form.{Form}
 use Rattle.rr_words.specs.declared.tasks.Form.TheVariants.{Plain, Json}
 use Rattle.rr_folders.specs.Judged.{MayStart}
@@ -48,7 +49,7 @@ use Rattle.rr_cli.specs.Recognised.{IsScheduleText, IsTextOf, IsNoSchedule, IsNo
 use Rattle.rr_cli.specs.Shown.{ShowsTape, IsPictured}
 use Rattle.rr_cli.specs.Tapes.{yes_text}
 use Rattle.rr_cli.specs.declared.taped.TapeView.{TapeView}
-use Rattle.rr_cli.specs.declared.taped.TapeView.TheVariants.{Picture, Page}
+use Rattle.rr_cli.specs.declared.taped.TapeView.TheVariants.{Account, Picture, Page}
 
 -- the status of a stream that failed, by a device or by memory
 abbrev pub IsStreamStatus : ℕ → Type 0
@@ -187,20 +188,32 @@ pub data EndsOnSeed (On : (List ℕ → ℕ → Printing → Printing → Type 0
   unseeded : ((seed : ℕ) → IsNumberIn 0 (2 ^ 64 - 1) of_seed seed → ⊥) → status ≡ 2 → new ≡ old
       → EndsOnSeed On of_seed status old new
 
--- a picture of this cut of these bytes, or a page with it: it is printed; or the bytes are no schedule or memory was wanting, and
--- standard output is as it was
+-- a picture of a cut, or a page with it, is printed; or the cut has left no event in it, and then standard output is as it was and the
+-- status is that of wrong words
+abbrev pub PrintsCut : Cut → List ℕ → ℕ → Printing → Printing → Type 0
+PrintsCut cut text status old new =
+    ((shows_nothing cut text ≡ false) × Prints text status old new) ⊎ ((shows_nothing cut text ≡ true) × (status ≡ 2) × (new ≡ old))
+
+-- what is shown of a tape is printed, as its picture is
+abbrev pub PrintsShown : TapeView → List ℕ → ℕ → Printing → Printing → Type 0
+PrintsShown (Account how) text status old new = Prints text status old new
+PrintsShown (Picture cut) text status old new = PrintsCut cut text status old new
+PrintsShown (Page cut) text status old new = PrintsCut cut text status old new
+
+-- a picture of this cut of these bytes, or a page with it: it is printed, unless the cut has left no event in it; or the bytes are no
+-- schedule or memory was wanting, and standard output is as it was
 pub data EndsOnPicture (html : Bool) (cut : Cut) (bytes : List ℕ) (status : ℕ) (old new : Printing) : Type 0 where
-  pictured : (text : List ℕ) → IsPictured html cut bytes text → Prints text status old new → EndsOnPicture html cut bytes status old new
+  pictured : (text : List ℕ) → IsPictured html cut bytes text → PrintsCut cut text status old new → EndsOnPicture html cut bytes status old new
   unpictured : (refusal : Refusal) → IsFault IsEvent event_line bytes refusal → status ≡ status_of refusal
       → new ≡ old
       → EndsOnPicture html cut bytes status old new
 
--- what is shown of the tape that bytes are: a text that shows it is printed, as its events are a tape run and agree with one list;
+-- what is shown of the tape that bytes are: a text that shows it is printed, unless a cut has left no event in it, as its events are a tape run and agree with one list;
 -- or the world doesn't give some event next; or the bytes are no tape or memory was wanting. Unless it is printed, standard output
 -- is as it was
 pub data EndsOnTaped (what : TapeView) (bytes : List ℕ) (status : ℕ) (old new : Printing) : Type 0 where
   taped : (tape : Taped) (text : List ℕ) → IsTextOf tape bytes → IsTapeRun tape.nodes tape.events
-      → tapes.AgreesWithOneList tape.nodes tape.events → ShowsTape what tape text → Prints text status old new
+      → tapes.AgreesWithOneList tape.nodes tape.events → ShowsTape what tape text → PrintsShown what text status old new
       → EndsOnTaped what bytes status old new
   strange : (tape : Taped) (number : ℕ) → IsTextOf tape bytes → StopsAt tape.nodes tape.events number → status ≡ 7 → new ≡ old
       → EndsOnTaped what bytes status old new
@@ -254,17 +267,17 @@ EndsOnVerified form status old new = (refused : Bool) × EndsOnVerification form
 -- the export of folders: no two decide an instance differently, and that of the longest decided list is printed; or two do; or
 -- none holds facts and one is refused; or memory was wanting, or a program runs the cluster. Unless it is printed, standard output is as
 -- it was
-pub data EndsOnExport (list : Bool) (status : ℕ) (old new : Printing) : Type 0 where
+pub data EndsOnExport (what : Exported) (status : ℕ) (old new : Printing) : Type 0 where
   exported : (readings : List folder.Reading) (text : List ℕ) → AreRead readings → AllAlike readings
-      → IsExportOf list (longest_decided readings) text → Prints text status old new
-      → EndsOnExport list status old new
+      → IsExportOf what (longest_decided readings) text → Prints text status old new
+      → EndsOnExport what status old new
   clashing : (readings : List folder.Reading) → AreRead readings → (AllAlike readings → ⊥) → status ≡ 4 → new ≡ old
-      → EndsOnExport list status old new
+      → EndsOnExport what status old new
   unheld_by_all : (readings : List folder.Reading) (refusal : Refusal) → AreRead readings → AllByRecursion HoldsNothing readings
       → status ≡ status_of refusal → new ≡ old
-      → EndsOnExport list status old new
-  unexported : status ≡ 6 → new ≡ old → EndsOnExport list status old new
-  not_locked : IsStreamStatus status → new ≡ old → EndsOnExport list status old new
+      → EndsOnExport what status old new
+  unexported : status ≡ 6 → new ≡ old → EndsOnExport what status old new
+  not_locked : IsStreamStatus status → new ≡ old → EndsOnExport what status old new
 
 -- a run on the folder that a word names; or none is named, and standard output is as it was
 pub data EndsOnDir (On : ℕ → Printing → Printing → Type 0) (dir : Option Text) (status : ℕ) (old new : Printing) : Type 0 where
@@ -279,13 +292,14 @@ IsMistake kind = (kind ≢ DisplayHelp) × (kind ≢ DisplayVersion)
 abbrev pub version_text : List ℕ
 version_text = line (codes "rr 0.1.0, proved with rattle logic dac8208d650f15bf" ∷ [])
 
--- the line with which the help ends, behind an empty one
+-- the lines with which the help ends, behind an empty one
 abbrev pub statuses_text : List ℕ
 statuses_text =
-    10 ∷ codes "Exit status: 0 done, 1 a difference, 2 wrong words, 3 no schedule, 4 a damaged area, 5 a stream, a file or a device, 6 memory, 7 an audit, 8 no finish"
+    10 ∷ codes "Exit status: 0 done, 1 a difference, 2 wrong words, 3 no schedule, 4 a damaged area,\n"
+    ++ codes "5 a stream, a file or a device, 6 memory, 7 an audit, 8 no finish, 10 to 18 a strict shell"
     ++ 10 ∷ []
 
--- the help is printed, which ends with the line on statuses; or memory was wanting, and standard output is as it was
+-- the help is printed, which ends with the lines on statuses; or memory was wanting, and standard output is as it was
 pub data Helps (status : ℕ) (old new : Printing) : Type 0 where
   helped : (front : List ℕ) → Prints (front ++ statuses_text) status old new → Helps status old new
   unhelped : status ≡ 6 → new ≡ old → Helps status old new
@@ -336,8 +350,8 @@ pub data EndsBy (faults : Kinds) (task : Task) (from to : Readable) (status : �
   by_verification : (dir : Option Text) (form : Form) → faults ≡ [] → task ≡ Verify dir form
       → EndsOnDir (EndsOnVerified form) dir status old new
       → EndsBy faults task from to status old new
-  by_export : (dir : Option Text) (list : Bool) → faults ≡ [] → task ≡ Export dir list
-      → EndsOnDir (EndsOnExport list) dir status old new
+  by_export : (dir : Option Text) (what : Exported) → faults ≡ [] → task ≡ Export dir what
+      → EndsOnDir (EndsOnExport what) dir status old new
       → EndsBy faults task from to status old new
   without_views : (view : View) → faults ≡ [] → task ≡ Viewing view → status ≡ 2 → new ≡ old
       → EndsBy faults task from to status old new

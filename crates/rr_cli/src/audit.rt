@@ -75,7 +75,7 @@ fn audit_bytes<O: Sink, E: Write>(
 {
     match audit_on(alloc, bytes, out) {
         Ok(verdict) => end_by_verdict(alloc, form, bytes, verdict, out, err),
-        Err(refusal) => end_by_fault(err, TextKind::Tape, name, bytes, &refusal),
+        Err(refusal) => end_by_fault(alloc, err, TextKind::Tape, name, bytes, &refusal),
     }
 }
 

@@ -1,20 +1,26 @@
-//! `rr export`: what the folders of a cluster have decided, as a script or as a list.
+//! `rr export`: what the folders of a cluster have decided, as a script or as a list, or as JSON.
 
-ghost use Rattle.std.specs.Prelude.{◌≡◌, false, option_map, IfOk, IfSome};
-ghost use Rattle.std.specs.List.{AllByRecursion};
+ghost use Rattle.std.specs.Prelude.{◌≡◌, ◌++◌, option_map, IfOk, IfSome, OnOk};
+ghost use Rattle.std.specs.List.{AllByRecursion, flat_map};
 ghost use Rattle.std.specs.Io.KnownBytes.{Keeps};
 ghost use Rattle.rr_types.specs.declared.refusal.Refusal.TheVariants.{OutOfMemory};
 ghost use Rattle.rr_cli.specs.Ends.{EndsOnExport, EndsOnDir};
-ghost use Rattle.rr_cli.specs.Clusters.{AreRead, HoldsNothing, IsExportOf};
+ghost use Rattle.rr_cli.specs.Clusters.{AreRead, HoldsNothing, name_object, claim_object, IsExportOf};
 ghost use Rattle.rr_folders.specs.Agreement.{AllAlike, longest_decided};
 
-use crate::folder_faults::end_by_unlocked;
+use crate::folder_faults::{end_by_unlocked, end_without_such};
 use crate::folders::{end_without_dir, print_folder_faults, read_folders};
 use crate::refusals::end_by_refusal;
 use crate::streams::end_by_text;
 use rr_folders::{Lockable, Reading, decided_text, export, longest_decided, verify};
+use rr_json::{
+    push_decided_objects, push_end, push_number_member, push_open, push_text_member,
+    push_words_member,
+};
 use rr_stream::Sink;
-use rr_types::{Command, Nodes, Refusal};
+use rr_text::ScriptLine;
+use rr_types::{Command, Name, Nodes, Op, Refusal, Value};
+use rr_words::Exported;
 use std::alloc::{AllocError, Global};
 use std::io::Write;
 use std::os::unix::fs::FileExt;
@@ -22,7 +28,7 @@ use std::rt::Files;
 
 // The registry of a decided list as the text of a script.
 fn script_of(alloc: Global, decided: &[Command]) -> Result<Vec<u8>, AllocError>
-    ensures text { IfOk result (λ v. IsExportOf false decided.now v.items) }
+    ensures text { IfOk result (λ v. IsExportOf Exported.Claims decided.now v.items) }
 {
     let Ok(nodes) = Nodes::new(1) else {
         unreachable!();
@@ -33,14 +39,71 @@ fn script_of(alloc: Global, decided: &[Command]) -> Result<Vec<u8>, AllocError>
     }
 }
 
-// The decided list as a text, or the script of its registry.
-fn text_of(alloc: Global, list: bool, decided: &[Command]) -> Result<Vec<u8>, AllocError>
-    ensures text { IfOk result (λ v. IsExportOf list decided.now v.items) }
+// Appends a name, its owner and its value, as an object.
+fn push_name(out: &mut Vec<u8>, name: &Name, owner: u32, value: &Value) -> Result<(), AllocError>
+    ensures ok { OnOk result (out.new.items ≡ out.old.items ++ name_object name.now owner value.now) }
 {
-    if list {
-        decided_text(alloc, decided)
-    } else {
-        script_of(alloc, decided)
+    push_open(out, b"bound")?;
+    push_text_member(out, b"name", name.as_bytes())?;
+    push_number_member(out, b"owner", u64::from(owner))?;
+    push_words_member(out, b"value", value.as_bytes())?;
+    push_end(out)
+}
+
+// Appends what a line of a script claims, as an object.
+fn push_claim(out: &mut Vec<u8>, line: &ScriptLine) -> Result<(), AllocError>
+    ensures ok { OnOk result (out.new.items ≡ out.old.items ++ claim_object line.now) }
+{
+    match line {
+        ScriptLine::Submit { command, .. } => match &command.op {
+            Op::Claim(name, value) => push_name(out, name, command.request.client, value),
+            _ => Ok(()),
+        },
+        ScriptLine::Look { .. } => Ok(()),
+    }
+}
+
+// Appends what the lines of a script claim, an object each.
+fn push_claims(out: &mut Vec<u8>, lines: &[ScriptLine]) -> Result<(), AllocError>
+    ensures ok { OnOk result (out.new.items ≡ out.old.items ++ flat_map claim_object lines.now) }
+{
+    for line in lines {
+        push_claim(out, line)?;
+    }
+    Ok(())
+}
+
+// The names of the registry of a decided list, an object each.
+fn names_of(alloc: Global, decided: &[Command]) -> Result<Vec<u8>, AllocError>
+    ensures text { IfOk result (λ v. IsExportOf Exported.Names decided.now v.items) }
+{
+    let Ok(nodes) = Nodes::new(1) else {
+        unreachable!();
+    };
+    let script = export(alloc, nodes, decided)?;
+    let mut text = Vec::new(alloc);
+    push_claims(&mut text, script.lines())?;
+    Ok(text)
+}
+
+// A decided list, an object for each command.
+fn commands_of(alloc: Global, decided: &[Command]) -> Result<Vec<u8>, AllocError>
+    ensures text { IfOk result (λ v. IsExportOf Exported.Commands decided.now v.items) }
+{
+    let mut text = Vec::new(alloc);
+    push_decided_objects(&mut text, decided)?;
+    Ok(text)
+}
+
+// A decided list, or its registry, as it is exported.
+fn text_of(alloc: Global, what: Exported, decided: &[Command]) -> Result<Vec<u8>, AllocError>
+    ensures text { IfOk result (λ v. IsExportOf what decided.now v.items) }
+{
+    match what {
+        Exported::Claims => script_of(alloc, decided),
+        Exported::List => decided_text(alloc, decided),
+        Exported::Names => names_of(alloc, decided),
+        Exported::Commands => commands_of(alloc, decided),
     }
 }
 
@@ -62,11 +125,11 @@ fn first_refusal(readings: &[Reading]) -> Option<&Refusal>
 }
 
 // The export of the longest list that folders have decided.
-fn export_text(alloc: Global, list: bool, readings: &[Reading]) -> Result<Vec<u8>, AllocError>
-    ensures text { IfOk result (λ v. IsExportOf list (longest_decided readings.now) v.items) }
+fn export_text(alloc: Global, what: Exported, readings: &[Reading]) -> Result<Vec<u8>, AllocError>
+    ensures text { IfOk result (λ v. IsExportOf what (longest_decided readings.now) v.items) }
 {
     match longest_decided(alloc, readings) {
-        Ok(decided) => text_of(alloc, list, decided.as_slice()),
+        Ok(decided) => text_of(alloc, what, decided.as_slice()),
         Err(wanting) => Err(wanting),
     }
 }
@@ -74,17 +137,17 @@ fn export_text(alloc: Global, list: bool, readings: &[Reading]) -> Result<Vec<u8
 // Prints it. They decide no instance differently.
 fn print_export<O: Sink, E: Write>(
     alloc: Global,
-    list: bool,
+    what: Exported,
     readings: &[Reading],
     out: &mut O,
     err: &mut E,
 ) -> u8
     requires read { AreRead readings.now }
     requires alike { AllAlike readings.now }
-    ensures ends { EndsOnExport list result (O.printing out.old) (O.printing out.new) }
+    ensures ends { EndsOnExport what result (O.printing out.old) (O.printing out.new) }
     ensures quiet { result ≡ 0 → Keeps (E.contents err.old) (E.contents err.new) }
 {
-    match export_text(alloc, list, readings) {
+    match export_text(alloc, what, readings) {
         Ok(text) => end_by_text(out, err, text.as_slice()),
         Err(_) => end_by_refusal(err, &Refusal::OutOfMemory),
     }
@@ -94,7 +157,7 @@ fn print_export<O: Sink, E: Write>(
 fn export_readings<R: Files + AllocGlobal, O: Sink, E: Write>(
     rt: &R,
     dir: &str,
-    list: bool,
+    what: Exported,
     readings: &[Reading],
     out: &mut O,
     err: &mut E,
@@ -102,7 +165,7 @@ fn export_readings<R: Files + AllocGlobal, O: Sink, E: Write>(
 where
     R::File: FileExt,
     requires { AreRead readings.now }
-    ensures ends { EndsOnExport list result (O.printing out.old) (O.printing out.new) }
+    ensures ends { EndsOnExport what result (O.printing out.old) (O.printing out.new) }
     ensures quiet { result ≡ 0 → Keeps (E.contents err.old) (E.contents err.new) }
 {
     if let Some(refusal) = first_refusal(readings) {
@@ -113,7 +176,7 @@ where
     match verify(rt.alloc(), readings) {
         Ok(verdict) => {
             if verdict.clashes.len() == 0 {
-                print_export(rt.alloc(), list, readings, out, err)
+                print_export(rt.alloc(), what, readings, out, err)
             } else {
                 end_by_clash(err, dir)
             }
@@ -134,24 +197,27 @@ fn end_by_clash<E: Write>(err: &mut E, dir: &str) -> u8
 }
 
 /// Exports what the folders have decided in the folder that the word `dir` names: the registry of the longest decided list
-/// as a script, or the list. The status is 4 where two folders decide an instance differently.
+/// as a script, or the list, or one of them as JSON. The status is 4 where two folders decide an instance differently.
 pub(crate) fn export_by_word<R: Files + AllocGlobal, O: Sink, E: Write>(
     rt: &R,
     dir: Option<&str>,
-    list: bool,
+    what: Exported,
     out: &mut O,
     err: &mut E,
 ) -> u8
 where
     R::File: FileExt + Lockable,
-    ensures ends { EndsOnDir (EndsOnExport list) (option_map (λ s. s.now) dir.entry) result (O.printing out.old) (O.printing out.new) }
+    ensures ends { EndsOnDir (EndsOnExport what) (option_map (λ s. s.now) dir.entry) result (O.printing out.old) (O.printing out.new) }
     ensures quiet { result ≡ 0 → Keeps (E.contents err.old) (E.contents err.new) }
 {
     let Some(dir) = dir else {
         return end_without_dir(err, "export");
     };
+    if let Some(ending) = end_without_such(rt, err, dir) {
+        return ending;
+    }
     match read_folders(rt, dir) {
-        Ok(readings) => export_readings(rt, dir, list, readings.as_slice(), out, err),
+        Ok(readings) => export_readings(rt, dir, what, readings.as_slice(), out, err),
         Err(closed) => end_by_unlocked(err, &closed),
     }
 }

@@ -115,7 +115,7 @@ fn finish_bytes<O: Sink, E: Write>(
 {
     let finish = match finish_run(alloc, bytes, out) {
         Ok(finish) => finish,
-        Err(refusal) => return end_by_fault(err, TextKind::Schedule, name, bytes, &refusal),
+        Err(refusal) => return end_by_fault(alloc, err, TextKind::Schedule, name, bytes, &refusal),
     };
     let ending = finish.ending;
     match text_of(alloc, what, bytes, finish, out) {

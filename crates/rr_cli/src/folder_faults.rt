@@ -1,13 +1,13 @@
 //! What is wrong with a node's folder, told to people.
 
-ghost use Rattle.std.specs.Prelude.{◌≡◌};
+ghost use Rattle.std.specs.Prelude.{◌≡◌, None, IfSome};
 ghost use Rattle.rr_cli.specs.Ends.{IsStreamStatus};
 ghost use Rattle.rr_cli.specs.Refusals.{status_of};
 
 use crate::refusals::end_by_refusal;
 use rr_folders::{Closed, print_closed, see_plain};
 use rr_types::Refusal;
-use std::io::{Read, Seek, SeekFrom, Write};
+use std::io::{ErrorKind, Read, Seek, SeekFrom, Write};
 use std::rt::Files;
 use std::{fs, io};
 
@@ -39,6 +39,21 @@ pub fn end_by_unlocked<E: Write>(err: &mut E, closed: &Closed) -> u8
             let _ = print_closed(err, closed);
             ending
         }
+    }
+}
+
+/// Ends where there is no folder of a name, and tells people so. None: there is one, or that can't be known.
+pub(crate) fn end_without_such<R: Files, E: Write>(rt: &R, err: &mut E, folder: &str) -> Option<u8>
+    ensures status { IfSome result IsStreamStatus }
+    ensures quiet { result ≡ None → E.contents err.new ≡ E.contents err.old }
+{
+    match fs::metadata(rt, folder) {
+        Err(error) if error.kind() == ErrorKind::NotFound => {
+            let status = end_by_refusal(err, &Refusal::Device);
+            let _ = writeln!(err, "{folder}: there is no folder of this name");
+            Some(status)
+        }
+        _ => None,
     }
 }
 

@@ -37,6 +37,7 @@
 mod area_objects;
 mod audit;
 mod audit_objects;
+mod bare;
 mod exporting;
 mod finishing;
 mod folder_faults;

@@ -7,8 +7,8 @@ ghost use Rattle.rr_text.specs.ScheduleTexts.{event_line};
 ghost use Rattle.rr_cli.specs.Pages.{HasBoth, IsPageOf, IsTapePage};
 
 use crate::parts::{BACK, FRONT, MIDDLE};
-use rr_account::{account_of_tape, account_on, json_explanation};
-use rr_draw::{Cut, picture_of, push_escaped, tape_picture};
+use rr_account::{account_of_tape, account_on, page_data, tape_page_data};
+use rr_draw::{Cut, picture_of, push_script_data, tape_picture};
 use rr_stream::Sink;
 use rr_text::Tape;
 use rr_text::text_word::push_bytes;
@@ -22,7 +22,7 @@ fn page_with(alloc: Global, objects: &[u8], picture: &[u8]) -> Result<Vec<u8>, R
 {
     let mut page = Vec::new(alloc);
     push_bytes(&mut page, FRONT)?;
-    push_escaped(&mut page, objects)?;
+    push_script_data(&mut page, objects)?;
     push_bytes(&mut page, MIDDLE)?;
     push_bytes(&mut page, picture)?;
     push_bytes(&mut page, BACK)?;
@@ -30,7 +30,8 @@ fn page_with(alloc: Global, objects: &[u8], picture: &[u8]) -> Result<Vec<u8>, R
 }
 
 /// The page of the run of the schedule whose text the bytes are, with its picture as far as a cut shows it. Its data are those of
-/// all events: the lines of JSON that an explanation has. Those who watch `out` are told how far it is; `out` takes nothing.
+/// the events on the cut's lines: how many nodes there are, what came of each event, and which instance it decides. Those who watch
+/// `out` are told how far it is; `out` takes nothing.
 ///
 /// # Errors
 /// `BadNodes` and `BadEvent` for bytes that are no schedule, as from `Schedule::parse`; `OutOfMemory`.
@@ -45,7 +46,7 @@ pub fn page_of<O: Sink>(
     ensures unprinted { O.printing out.new ≡ O.printing out.old }
 {
     let account = account_on(alloc, bytes, out)?;
-    let objects = json_explanation(alloc, &account)?;
+    let objects = page_data(alloc, &account, cut.from, cut.to)?;
     let picture = picture_of(alloc, bytes, cut, out)?;
     page_with(alloc, objects.as_slice(), picture.as_slice())
 }
@@ -59,7 +60,7 @@ pub fn tape_page(alloc: Global, tape: &Tape, cut: &Cut) -> Result<Vec<u8>, Refus
     ensures err { IfErr result (λ e. e ≡ Refusal.OutOfMemory) }
 {
     let account = account_of_tape(alloc, tape)?;
-    let objects = json_explanation(alloc, &account)?;
+    let objects = tape_page_data(alloc, &account, cut.from, cut.to)?;
     let picture = tape_picture(alloc, tape, cut)?;
     page_with(alloc, objects.as_slice(), picture.as_slice())
 }

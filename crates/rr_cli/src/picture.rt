@@ -12,12 +12,13 @@ ghost use Rattle.rr_stream.specs.Files.{file_at};
 ghost use Rattle.rr_cli.specs.Ends.{EndsOnPicture, EndsOnDrawn, drawn_of_tape, EndsOnCut, EndsOnInput};
 ghost use Rattle.rr_words.specs.Tasks.{cut_words_in};
 
+use crate::bare::end_by_cut;
 use crate::input::STANDARD_INPUT;
 use crate::page::page_of;
 use crate::random_schedule::number_in;
 use crate::recognising::{Recognised, recognise};
 use crate::refusals::{TextKind, end_by_fault, end_by_refusal};
-use crate::streams::{end_by_stream, end_by_text};
+use crate::streams::end_by_stream;
 use crate::taped::{TapeView, show_tape, show_tape_bytes};
 use rr_draw::{Cut, picture_of};
 use rr_stream::{FileReader, Sink, Source, read_all};
@@ -209,7 +210,9 @@ fn print_either<O: Sink, E: Write>(
         Ok(Recognised::Tape(tape)) => {
             show_tape(alloc, drawn_of_tape(html, cut), bytes, &tape, out, err)
         }
-        Ok(Recognised::Neither(kind, refusal)) => end_by_fault(err, kind, name, bytes, &refusal),
+        Ok(Recognised::Neither(kind, refusal)) => end_by_fault(
+            alloc, err, kind, name, bytes, &refusal,
+        ),
         Err(refusal) => end_by_refusal(err, &refusal),
     }
 }
@@ -247,8 +250,8 @@ fn print_picture<O: Sink, E: Write>(
     ensures quiet { result ≡ 0 → Keeps (E.contents err.old) (E.contents err.new) }
 {
     match picture_in(alloc, bytes, cut, html, out) {
-        Ok(text) => end_by_text(out, err, text.as_slice()),
-        Err(refusal) => end_by_fault(err, TextKind::Schedule, name, bytes, &refusal),
+        Ok(text) => end_by_cut(cut, bytes, text.as_slice(), out, err),
+        Err(refusal) => end_by_fault(alloc, err, TextKind::Schedule, name, bytes, &refusal),
     }
 }
 

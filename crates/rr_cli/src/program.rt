@@ -48,7 +48,7 @@ fn simulate_bytes<O: Sink, E: Write>(
 {
     match report_on(alloc, bytes, out) {
         Ok(text) => end_by_text(out, err, text.as_slice()),
-        Err(refusal) => end_by_fault(err, TextKind::Schedule, name, bytes, &refusal),
+        Err(refusal) => end_by_fault(alloc, err, TextKind::Schedule, name, bytes, &refusal),
     }
 }
 
@@ -101,7 +101,7 @@ fn simulate_file<F: FileReader, O: Sink, E: Write>(
 /// `rr migrate DIR --node NODE --nodes NODES` opens the disk in the folder DIR, and prints what its areas hold then.
 /// The disk is that of node NODE of NODES nodes.
 /// `rr verify DIR [--json]` reads the folders of a cluster in DIR, and prints what they hold and whether they agree.
-/// `rr export DIR [--list]` prints the registry of the longest list that they have decided as a script, or else the list.
+/// `rr export DIR [--list] [--json]` prints the registry of the longest list that they have decided as a script, or else the list.
 /// What goes wrong is told on `err`, but for a reader of `out` that has gone. The statuses: 0 done, 2 wrong words, 3 no
 /// schedule or tape, 4 a damaged area or folders that don't agree, 5 a device, a file or a stream, 6 memory, 7 a tape with an event that isn't what
 /// its node does next, 8 a schedule that isn't finished.
@@ -144,7 +144,7 @@ where
             migrate_by_words(rt, folder, node, nodes, out, err)
         }
         Ok(Task::Verify(dir, form)) => verify_by_word(rt, dir, form, out, err),
-        Ok(Task::Export(dir, list)) => export_by_word(rt, dir, list, out, err),
+        Ok(Task::Export(dir, what)) => export_by_word(rt, dir, what, out, err),
         Err(error) => end_by_words(rt.alloc(), out, err, &error),
     }
 }

@@ -5,7 +5,9 @@ ghost use Rattle.std.specs.Io.KnownBytes.{Appends};
 ghost use Rattle.rr_cli.specs.Refusals.{status_of, refusal_line};
 
 use rr_explain::{print_schedule_fault, print_tape_fault};
+use rr_text::{Schedule, Tape};
 use rr_types::Refusal;
+use std::alloc::Global;
 use std::io;
 use std::io::Write;
 
@@ -49,8 +51,29 @@ pub enum TextKind {
     Tape,
 }
 
-/// Ends by the refusal of a text of this kind and name. A second line tells people where it is at fault and why.
+// Tells people that a text which was read as the one kind is of the other, if it is.
+fn print_other_kind<E: Write>(
+    alloc: Global,
+    err: &mut E,
+    kind: TextKind,
+    name: &str,
+    bytes: &[u8],
+) -> io::Result<()> {
+    match kind {
+        TextKind::Schedule if Tape::parse(alloc, bytes).is_ok() => {
+            writeln!(err, "{name}: this is a tape; see rr audit")
+        }
+        TextKind::Tape if Schedule::parse(alloc, bytes).is_ok() => {
+            writeln!(err, "{name}: this is a schedule; see rr sim")
+        }
+        _ => Ok(()),
+    }
+}
+
+/// Ends by the refusal of a text of this kind and name. A second line tells people where it is at fault and why. A text of the
+/// other kind is told in a third.
 pub fn end_by_fault<E: Write>(
+    alloc: Global,
     err: &mut E,
     kind: TextKind,
     name: &str,
@@ -64,5 +87,8 @@ pub fn end_by_fault<E: Write>(
         TextKind::Schedule => print_schedule_fault(err, name, bytes, refusal),
         TextKind::Tape => print_tape_fault(err, name, bytes, refusal),
     };
+    if ending == 3 {
+        let _ = print_other_kind(alloc, err, kind, name, bytes);
+    }
     ending
 }

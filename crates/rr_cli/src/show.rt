@@ -11,7 +11,7 @@ ghost use Rattle.rr_cli.specs.Areas.{area_words, areas_text, areas_in, IsShown, 
 ghost use Rattle.rr_cli.specs.Ends.{EndsOnFolder};
 
 use crate::area_objects::areas_objects;
-use crate::folder_faults::{end_by_folder_fault, end_by_unlocked};
+use crate::folder_faults::{end_by_folder_fault, end_by_unlocked, end_without_such};
 use crate::streams::end_by_text;
 use rr_disk::Disk;
 use rr_folders::{Lockable, Shares, read_only_disk, share_node};
@@ -177,6 +177,9 @@ where
     ensures ends { EndsOnFolder form result (O.printing out.old) (O.printing out.new) }
     ensures quiet { result ≡ 0 → Keeps (E.contents err.old) (E.contents err.new) }
 {
+    if let Some(ending) = end_without_such(rt, err, folder) {
+        return ending;
+    }
     match share_node(rt, folder) {
         Ok(shares) => show_shared(rt, &shares, form, folder, out, err),
         Err(closed) => end_by_unlocked(err, &closed),

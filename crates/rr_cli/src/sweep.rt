@@ -104,7 +104,7 @@ fn sweep_bytes<O: Sink, E: Write>(
             Some(refusal) => end_too_far(err, name, &refusal),
             None => sweep_schedule(alloc, &schedule, seed, out, err),
         },
-        Err(refusal) => end_by_fault(err, TextKind::Schedule, name, bytes, &refusal),
+        Err(refusal) => end_by_fault(alloc, err, TextKind::Schedule, name, bytes, &refusal),
     }
 }
 

@@ -3,12 +3,13 @@
 ghost use Rattle.std.specs.Prelude.{◌≡◌, IfOk, IfErr};
 ghost use Rattle.std.specs.Io.KnownBytes.{Keeps};
 ghost use Rattle.rr_audit.specs.Audits.{IsVerdict};
-ghost use Rattle.rr_cli.specs.Ends.{EndsOnTaped};
+ghost use Rattle.rr_cli.specs.Ends.{EndsOnTaped, PrintsShown};
 ghost use Rattle.rr_cli.specs.Recognised.{IsTextOf};
 ghost use Rattle.rr_cli.specs.Shown.{Shows, ShowsTape};
 ghost use Rattle.rr_cli.specs.Views.{EndsOnText};
 
 use crate::audit::end_by_no;
+use crate::bare::end_by_cut;
 use crate::page::tape_page;
 use crate::recognising::{Recognised, recognise};
 use crate::refusals::{TextKind, end_by_fault, end_by_refusal};
@@ -55,14 +56,32 @@ fn account_text(alloc: Global, how: Shown, tape: &Tape) -> Result<Vec<u8>, Refus
 }
 
 // The text that shows a tape.
-fn tape_text(alloc: Global, what: TapeView, tape: &Tape) -> Result<Vec<u8>, Refusal>
-    ensures ok { IfOk result (λ text. ShowsTape what tape.now text.items) }
+fn tape_text(alloc: Global, what: &TapeView, tape: &Tape) -> Result<Vec<u8>, Refusal>
+    ensures ok { IfOk result (λ text. ShowsTape what.now tape.now text.items) }
     ensures err { IfErr result (λ e. e ≡ Refusal.OutOfMemory) }
 {
     match what {
-        TapeView::Account(how) => account_text(alloc, how, tape),
-        TapeView::Picture(cut) => tape_picture(alloc, tape, &cut),
-        TapeView::Page(cut) => tape_page(alloc, tape, &cut),
+        TapeView::Account(how) => account_text(alloc, *how, tape),
+        TapeView::Picture(cut) => tape_picture(alloc, tape, cut),
+        TapeView::Page(cut) => tape_page(alloc, tape, cut),
+    }
+}
+
+// Prints what is shown of a tape, unless that is a picture in which its cut has left no event.
+fn end_by_shown<O: Sink, E: Write>(
+    what: &TapeView,
+    bytes: &[u8],
+    text: &[u8],
+    out: &mut O,
+    err: &mut E,
+) -> u8
+    ensures ends { PrintsShown what.now text.now result (O.printing out.old) (O.printing out.new) }
+    ensures quiet { result ≡ 0 → Keeps (E.contents err.old) (E.contents err.new) }
+{
+    match what {
+        TapeView::Account(_) => end_by_text(out, err, text),
+        TapeView::Picture(cut) => end_by_cut(cut, bytes, text, out, err),
+        TapeView::Page(cut) => end_by_cut(cut, bytes, text, out, err),
     }
 }
 
@@ -82,8 +101,8 @@ fn show_found<O: Sink, E: Write>(
     ensures quiet { result ≡ 0 → Keeps (E.contents err.old) (E.contents err.new) }
 {
     match verdict {
-        Verdict::Yes(_) => match tape_text(alloc, what, tape) {
-            Ok(text) => end_by_text(out, err, text.as_slice()),
+        Verdict::Yes(_) => match tape_text(alloc, &what, tape) {
+            Ok(text) => end_by_shown(&what, bytes, text.as_slice(), out, err),
             Err(refusal) => end_by_refusal(err, &refusal),
         },
         Verdict::No(number, node, given) => end_by_no(alloc, bytes, number, node, &given, err),
@@ -123,7 +142,7 @@ pub(crate) fn show_tape_bytes<O: Sink, E: Write>(
 {
     match Tape::parse(alloc, bytes) {
         Ok(tape) => show_tape(alloc, what, bytes, &tape, out, err),
-        Err(refusal) => end_by_fault(err, TextKind::Tape, name, bytes, &refusal),
+        Err(refusal) => end_by_fault(alloc, err, TextKind::Tape, name, bytes, &refusal),
     }
 }
 
@@ -144,7 +163,9 @@ fn show_either<O: Sink, E: Write>(
         Ok(Recognised::Tape(tape)) => {
             show_tape(alloc, TapeView::Account(how), bytes, &tape, out, err)
         }
-        Ok(Recognised::Neither(kind, refusal)) => end_by_fault(err, kind, name, bytes, &refusal),
+        Ok(Recognised::Neither(kind, refusal)) => end_by_fault(
+            alloc, err, kind, name, bytes, &refusal,
+        ),
         Err(refusal) => end_by_refusal(err, &refusal),
     }
 }

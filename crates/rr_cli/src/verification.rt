@@ -7,7 +7,7 @@ ghost use Rattle.rr_folders.specs.Agreement.{Agree, HaveOneList, clashes_from};
 ghost use Rattle.rr_cli.specs.Ends.{EndsOnVerification, EndsOnVerified, EndsOnDir};
 ghost use Rattle.rr_cli.specs.Clusters.{AreRead, form_in, unlike};
 
-use crate::folder_faults::end_by_unlocked;
+use crate::folder_faults::{end_by_unlocked, end_without_such};
 use crate::folders::{end_without_dir, print_folder_faults, read_judged};
 use crate::refusals::end_by_refusal;
 use crate::streams::end_by_text;
@@ -118,6 +118,9 @@ where
     let Some(dir) = dir else {
         return end_without_dir(err, "verify");
     };
+    if let Some(ending) = end_without_such(rt, err, dir) {
+        return ending;
+    }
     match read_judged(rt, dir) {
         Ok((readings, judged)) => {
             verify_readings(rt, dir, form, readings.as_slice(), &judged, out, err)

@@ -73,7 +73,7 @@ pub(crate) fn show_bytes<O: Sink, E: Write>(
 {
     let account = match account_on(alloc, bytes, out) {
         Ok(account) => account,
-        Err(refusal) => return end_by_fault(err, TextKind::Schedule, name, bytes, &refusal),
+        Err(refusal) => return end_by_fault(alloc, err, TextKind::Schedule, name, bytes, &refusal),
     };
     match shown_text(alloc, how, &account) {
         Ok(text) => end_by_text(out, err, text.as_slice()),
@@ -146,7 +146,14 @@ fn compare_bytes<O: Sink, E: Write>(
 {
     let account = match account_on(alloc, bytes, out) {
         Ok(account) => account,
-        Err(refusal) => return end_by_fault(err, TextKind::Schedule, names.0, bytes, &refusal),
+        Err(refusal) => return end_by_fault(
+            alloc,
+            err,
+            TextKind::Schedule,
+            names.0,
+            bytes,
+            &refusal,
+        ),
     };
     let report = match account.report().text(alloc) {
         Ok(report) => report,

@@ -44,7 +44,7 @@ fn help_text(alloc: Global, error: &Error) -> Result<String, AllocError>
 {
     let mut text = format!(in alloc; "{error}")?;
     text.push_str(
-        "\nExit status: 0 done, 1 a difference, 2 wrong words, 3 no schedule, 4 a damaged area, 5 a stream, a file or a device, 6 memory, 7 an audit, 8 no finish\n",
+        "\nExit status: 0 done, 1 a difference, 2 wrong words, 3 no schedule, 4 a damaged area,\n5 a stream, a file or a device, 6 memory, 7 an audit, 8 no finish, 10 to 18 a strict shell\n",
     )?;
     Ok(text)
 }

@@ -7,6 +7,9 @@
 //!
 //! ```rust
 //! fn main(rt: HostRuntime) -> ExitCode {
+//!     let words = words_of(&rt);
+//!     let is_seen = rt.stderr().is_terminal() && !is_json(&words);
+//!     let mut err = ReasonsFirst::new(Shown::new(rt.stderr()), is_seen);
 //!     let people = if rt.stderr().is_terminal() {
 //!         Some(rt.stderr())
 //!     } else {
@@ -21,14 +24,16 @@
 //!     } else {
 //!         None
 //!     };
-//!     ExitCode::from(run(
+//!     let status = run(
 //!         &rt,
-//!         words_of(&rt),
+//!         words,
 //!         &mut HostFiles::new(&rt),
 //!         &mut Prompted::new(Counted::new(rt.stdin()), typing),
 //!         &mut Watched::new(Counted::new(rt.stdout()), people),
-//!         &mut Shown::new(rt.stderr()),
-//!     ))
+//!         &mut err,
+//!     );
+//!     err.finish();
+//!     ExitCode::from(status)
 //! }
 //! ```
 #![tactic(auto)]

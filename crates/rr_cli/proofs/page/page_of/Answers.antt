@@ -10,7 +10,7 @@ returns-clause-ok g c =
       objects = c.in_ok-objects.objects.items;
       picture = c.in_ok-picture.picture.items;
       on_the_run = c.in_ok-account.ensures.ok;
-      explains = c.in_ok-objects.ensures.ok;
+      explained = c.in_ok-objects.ensures.ok;
       pictured = c.in_ok-picture.ensures.ok;
       has_both = of_equal c.as_slice.result.now c.as_slice-2.result.now c.in_ok-objects.objects.items c.in_ok-picture.picture.items text.items
           c.as_slice.ensures.value c.as_slice-2.ensures.value both;

@@ -131,5 +131,5 @@ returns-in-Ok-Verify-clause-ends g c =
 pub returns-in-Ok-Export-clause-ends : goal.returns-in-Ok-Export-clause-ends
 returns-in-Ok-Export-clause-ends g c =
     let w = c.in-Ok-Export in
-    let task : task_of (map g.S.AsStr.text c.args.words.now) ≡ Export (text_of w.dir) w.list = sym w.ensures.task ∙ ap task_in w.field-0-is in
-    by_export (text_of w.dir) w.list w.ensures.faults task c.export_by_word.ensures.ends
+    let task : task_of (map g.S.AsStr.text c.args.words.now) ≡ Export (text_of w.dir) w.what = sym w.ensures.task ∙ ap task_in w.field-0-is in
+    by_export (text_of w.dir) w.what w.ensures.faults task c.export_by_word.ensures.ends

@@ -1,15 +1,15 @@
 use Rattle.std.proofs.Common.{List, ℕ, subst, refl}
 use Rattle.rr_audit.specs.Audits.{IsVerdict}
-use Rattle.rr_cli.specs.Ends.{Prints}
+use Rattle.rr_cli.specs.Ends.{PrintsShown}
 use Rattle.rr_cli.proofs.TapedLemmas.{taped_ends, strange_ends, wanting_ends}
 use Rattle.rr_cli.proofs.taped.show_found.Goals as goal
 
 pub returns-in-Ok-clause-ends : goal.returns-in-Ok-clause-ends
 returns-in-Ok-clause-ends g c =
-    taped_ends c.args.what c.args.bytes.now c.args.tape.now c.in-Yes.field-0 c.in-Ok.text.items c.end_by_text.result (g.O.Sink.printing c.args.out.now) (g.O.Sink.printing c.end_by_text.new.out) c.requires.text
+    taped_ends c.args.what c.args.bytes.now c.args.tape.now c.in-Yes.field-0 c.in-Ok.text.items c.end_by_shown.result (g.O.Sink.printing c.args.out.now) (g.O.Sink.printing c.end_by_shown.new.out) c.requires.text
     (subst (λ verdict. IsVerdict c.args.tape.now.nodes c.args.tape.now.events verdict) c.in-Yes.is c.requires.found)
     c.in-Ok.ensures.ok
-    (subst (λ (text : List ℕ). Prints text c.end_by_text.result (g.O.Sink.printing c.args.out.now) (g.O.Sink.printing c.end_by_text.new.out)) c.as_slice.ensures.value c.end_by_text.ensures.ends)
+    (subst (λ (text : List ℕ). PrintsShown c.args.what text c.end_by_shown.result (g.O.Sink.printing c.args.out.now) (g.O.Sink.printing c.end_by_shown.new.out)) c.as_slice.ensures.value c.end_by_shown.ensures.ends)
 
 pub returns-in-Err-clause-ends : goal.returns-in-Err-clause-ends
 returns-in-Err-clause-ends g c =

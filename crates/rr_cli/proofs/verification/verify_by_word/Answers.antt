@@ -9,3 +9,7 @@ returns-in-Ok-clause-ends g c =
 pub returns-in-Err-clause-ends : goal.returns-in-Err-clause-ends
 returns-in-Err-clause-ends g c =
     named c.in-Some.dir.now (ap (option_map (λ (s : Bor (List ℕ)). s.now)) c.in-Some.is) (true, unlocked c.end_by_unlocked.ensures refl)
+
+pub returns-in-Some-end_without_such-clause-ends : goal.returns-in-Some-end_without_such-clause-ends
+returns-in-Some-end_without_such-clause-ends g c =
+    named c.in-Some.dir.now (ap (option_map (λ (s : Bor (List ℕ)). s.now)) c.in-Some.is) (true, unlocked c.in-Some-end_without_such.ensures.status refl)
