@@ -1,7 +1,9 @@
-/* Makes one call on files go wrong: the FAIL_NTH-th call of the kind FAIL_CALL (open, read, write, sync, rename, mkdir or lock),
-   counted from 1 over all threads, on files whose paths have the text FAIL_PATH. By FAIL_HOW it fails with an error of that number; `short`
-   lets it move only half of its bytes, and `torn` fails it then by EIO; `kill` and `killed` end the process before it and
-   behind it. With FAIL_MANY so many from it on. The file COUNT_CALLS gets how many there were. */
+/* Makes one call on files go wrong: the FAIL_NTH-th call of the kind FAIL_CALL (open, read, write, sync, rename, mkdir, lock or change),
+   counted from 1 over all threads, on files whose paths have the text FAIL_PATH. A `change` is each call that a full or a read-only file
+   system can refuse: a write, a rename, a new folder, a cut, a removal, and an opening that would make a file or may write to it. By
+   FAIL_HOW the call fails with an error of that number; `short` lets it move only half of its bytes, and `torn` fails it then by EIO;
+   `kill` and `killed` end the process before it and behind it. With FAIL_MANY so many from it on, and with FAIL_WHILE only while there is
+   a file of that name. The file COUNT_CALLS gets how many there were. */
 #define _GNU_SOURCE
 #include <dlfcn.h>
 #include <errno.h>
@@ -17,7 +19,7 @@
 #include <sys/syscall.h>
 #include <unistd.h>
 
-static const char *kind, *part, *file;
+static const char *kind, *part, *file, *during;
 static unsigned long wanted, many;
 static enum { FAILS, SHORT, TORN, KILL, KILLED } how;
 static int error;
@@ -29,6 +31,7 @@ __attribute__((constructor)) static void begin(void)
     kind = getenv("FAIL_CALL");
     part = getenv("FAIL_PATH");
     file = getenv("COUNT_CALLS");
+    during = getenv("FAIL_WHILE");
     wanted = nth ? strtoul(nth, NULL, 10) : 0;
     many = all ? strtoul(all, NULL, 10) : 1;
     if (what) {
@@ -37,10 +40,24 @@ __attribute__((constructor)) static void begin(void)
     }
 }
 
+static int is_there(const char *path)
+{
+    return !syscall(SYS_faccessat, AT_FDCWD, path, F_OK);
+}
+
+/* A full file system refuses an opening only where it makes a file; one that is read-only each that may write. */
+static int may_change(int flags, const char *path)
+{
+    int makes = flags & O_CREAT && !is_there(path);
+    return error == ENOSPC ? makes : makes || (flags & O_ACCMODE) != O_RDONLY || flags & O_TRUNC;
+}
+
 static int is_meant(const char *this_kind, int fd, const char *path)
 {
     char link[64], target[PATH_MAX];
     if (!kind || strcmp(kind, this_kind))
+        return 0;
+    if (during && !is_there(during))
         return 0;
     if (!path) {
         snprintf(link, sizeof link, "/proc/self/fd/%d", fd);
@@ -92,7 +109,7 @@ ssize_t read(int fd, void *to, size_t size)
 
 ssize_t write(int fd, const void *from, size_t size)
 {
-    if (is_meant("write", fd, NULL)) {
+    if (is_meant("write", fd, NULL) || is_meant("change", fd, NULL)) {
         GOES_WRONG(syscall(SYS_write, fd, from, half(size)));
     }
     return syscall(SYS_write, fd, from, size);
@@ -114,7 +131,7 @@ ssize_t pread(int fd, void *to, size_t size, off_t at)
 
 ssize_t pwrite64(int fd, const void *from, size_t size, off_t at)
 {
-    if (is_meant("write", fd, NULL)) {
+    if (is_meant("write", fd, NULL) || is_meant("change", fd, NULL)) {
         GOES_WRONG(syscall(SYS_pwrite64, fd, from, half(size), at));
     }
     return syscall(SYS_pwrite64, fd, from, size, at);
@@ -147,7 +164,7 @@ int open(const char *path, int flags, ...)
     va_start(rest, flags);
     mode_t mode = flags & O_CREAT ? va_arg(rest, mode_t) : 0;
     va_end(rest);
-    if (is_meant("open", -1, path)) {
+    if (is_meant("open", -1, path) || (may_change(flags, path) && is_meant("change", -1, path))) {
         GOES_WRONG(syscall(SYS_openat, AT_FDCWD, path, flags, mode));
     }
     return syscall(SYS_openat, AT_FDCWD, path, flags, mode);
@@ -155,7 +172,7 @@ int open(const char *path, int flags, ...)
 
 int rename(const char *from, const char *to)
 {
-    if (is_meant("rename", -1, from)) {
+    if (is_meant("rename", -1, from) || is_meant("change", -1, from)) {
         GOES_WRONG(syscall(SYS_rename, from, to));
     }
     return syscall(SYS_rename, from, to);
@@ -163,10 +180,27 @@ int rename(const char *from, const char *to)
 
 int mkdir(const char *path, mode_t mode)
 {
-    if (is_meant("mkdir", -1, path)) {
+    if (is_meant("mkdir", -1, path) || (!is_there(path) && is_meant("change", -1, path))) {
         GOES_WRONG(syscall(SYS_mkdir, path, mode));
     }
     return syscall(SYS_mkdir, path, mode);
+}
+
+/* A full file system lets files be cut and removed. */
+int ftruncate(int fd, off_t length)
+{
+    if (error != ENOSPC && is_meant("change", fd, NULL)) {
+        GOES_WRONG(syscall(SYS_ftruncate, fd, length));
+    }
+    return syscall(SYS_ftruncate, fd, length);
+}
+
+int unlink(const char *path)
+{
+    if (error != ENOSPC && is_meant("change", -1, path)) {
+        GOES_WRONG(syscall(SYS_unlink, path));
+    }
+    return syscall(SYS_unlink, path);
 }
 
 int flock(int fd, int operation)

@@ -1,21 +1,22 @@
 #!/usr/bin/env python3
 """Opens pages of `rr draw --html` in a browser, and does what a reader does: clicks, searches, filters, types keys, follows an address.
 
-    hostile/pages.py [--rr PROGRAM] [--shots FOLDER] [--parts] [--runs N] [--events N]
+    hostile/pages.py [--rr PROGRAM] [--shots FOLDER] [--parts] [--runs N] [--events N ..] [--no-browser]
 
-It drives Chromium without a screen by its WebDriver (Debian: chromium, chromium-driver), at 1,400 and at 390 pixels. It isn't part of
-the gate, whose machine has no browser. With --shots it keeps pictures of the pages. With --parts the pages get the parts of web/ as
-they are, whatever the program was built with.
+Of N faulty runs (1,000) of one to seven nodes it compares which event decided each instance, as the data of their pages say, with the
+nodes in Python of hostile/deciding.py. They count acknowledgements themselves, and are told only what the JSON of the run has.
 
-Of N faulty runs (20) it asks the simulator which event decided each instance: the first hearing of an ack behind which its node,
-left alone, comes to tell a decision that it wouldn't have told before. The pages' links must lead to these. A page of N events (50,000)
-must hold few elements, go where its strip is clicked, and open and answer a click in the seconds of a processor that it has."""
+Then it drives Chromium without a screen by its WebDriver (Debian: chromium, chromium-driver), at 1,280 and at 390 pixels. It isn't part
+of the gate, whose machine has no browser. With --shots it keeps pictures of the pages. With --parts the pages get the parts of web/ as
+they are, whatever the program was built with. A page of N events (50,000 and 200,000) must hold few elements, go where its strip is
+clicked, and open and answer a click in the seconds of a processor that it has."""
 import argparse
 import base64
-import html
 import json
 import os
 import pathlib
+import random
+import re
 import socket
 import subprocess
 import sys
@@ -23,8 +24,10 @@ import tempfile
 import time
 import urllib.request
 
+import deciding
+
 ROOT = pathlib.Path(__file__).resolve().parent.parent
-WIDTHS = ((1400, 900), (390, 844))
+WIDTHS = ((1280, 900), (390, 844))
 ELEMENT = "element-6066-11e4-a52e-4f735466cecf"
 DOWN, ESCAPE, ENTER = "\ue015", "\ue00c", "\ue007"
 
@@ -128,6 +131,9 @@ MARKED = """const shapes = [...document.querySelectorAll('#picture g[data-line]'
 const is_hit = (shape) => matches.includes(place.get(Number(shape.dataset.line)));
 return [shapes.length, shapes.filter(is_hit).every((it) => it.classList.contains('hit')), shapes.every((it) => is_hit(it) || !it.classList.contains('hit'))]"""
 HERE = "return document.querySelector('#picture g.here')?.dataset.line ?? null"
+# the kinds of arrows whose colour isn't that of their word in the legend
+COLORS = """return ['e', 'p', 'a', 'd', 'q', 'o'].filter((kind) => [...document.querySelectorAll(`#scene line.${kind}, #scene path.${kind}`)]
+.some((arrow) => getComputedStyle(arrow).stroke !== getComputedStyle(document.querySelector(`#legend .${kind}`)).color))"""
 COUNT = "return document.getElementById('count').textContent"
 
 
@@ -136,8 +142,7 @@ def read(browser, check, page, objects, shots, width):
     events = [it for it in objects if "event" in it]
     browser.open(page.as_uri())
     check.that("events in sight have shapes", 0 < browser.run(SHAPES) <= len(events))
-    data = html.unescape(browser.run("return document.getElementById('data').textContent"))
-    check.that("the data are the run's", [json.loads(it) for it in data.splitlines()] == objects)
+    check.that("the page knows how many nodes there are", browser.run("return nodes") == nodes_of(page), browser.run("return nodes"))
     check.that("all nodes' lines fit", browser.run("return document.querySelector('#names').clientWidth <= document.querySelector('#picture').clientWidth"))
     check.that("no sideways scrolling of the page", browser.run("return document.documentElement.scrollWidth <= innerWidth"))
     # a click on a hearing: its words are shown, with the sending that it stands on
@@ -177,6 +182,7 @@ def read(browser, check, page, objects, shots, width):
     browser.press(ESCAPE)
     check.that("escape shows all", browser.run(COUNT) == f"{len(events)} events", browser.run(COUNT))
     check.that("escape leaves no mark", browser.run("return document.querySelectorAll('#picture :is(.here, .past, .future, .hit)').length") == 0)
+    check.that("arrows have the legend's colours then", browser.run(COLORS) == [], browser.run(COLORS))
     # filters
     for field, value, has in (("node", "0", lambda it: it["event"]["text"].split()[1] == "0"), ("kind", "dev", lambda it: it["event"]["text"].startswith("dev "))):
         browser.run("const it = document.getElementById(arguments[0]); it.value = arguments[1]; it.dispatchEvent(new Event('input'))", field, value)
@@ -188,22 +194,21 @@ def read(browser, check, page, objects, shots, width):
     commands = [it for it in objects if it["kind"] == "command"]
     links = browser.run("return [...document.querySelectorAll('#decided li a')].map((it) => it.hash)")
     check.that("each decided command is listed", browser.run("return document.querySelectorAll('#decided li').length") == len(commands))
-    for target in links:
-        event = next(it for it in events if it["event"]["line"] == int(target.removeprefix("#line=")))
-        number = int(event["event"]["text"].split()[2])
-        check.that("it leads to the hearing of an ack", next(it for it in events if it.get("number") == number and it["kind"] == "send")["message"]["kind"] == "ack")
+    decided = decisions_in(data_of(page))
+    wanted = [f"#line={decided[it['place']]}" for it in commands if it["place"] in decided]
+    check.that("each leads to the event that decided it", links == wanted, (links, wanted))
     browser.open(page.as_uri() + "?again#line=3")
     check.that("an address chooses its event", browser.run(HERE) == "3", browser.run(HERE))
     check.that("no error in the page", browser.errors() == [], browser.errors())
 
 
-def made(rr, folder, name, schedule, parts):
-    """Makes a schedule's page, and gives it with the objects of its run."""
+def made(rr, folder, name, schedule, parts, told_by=("sim", "--explain", "--json")):
+    """Makes the page of a schedule or a tape, and gives it with the objects of its run."""
     page = folder / f"{name}.html"
     page.write_bytes(subprocess.run([rr, "draw", "--html"], input=schedule, capture_output=True, check=True).stdout)
     if parts:
         page.write_bytes(subprocess.run([ROOT / "web/try.py", page], capture_output=True, check=True).stdout)
-    told = subprocess.run([rr, "sim", "--explain", "--json"], input=schedule, capture_output=True, check=True).stdout
+    told = subprocess.run([rr, *told_by], input=schedule, capture_output=True, check=True).stdout
     return page, [json.loads(line) for line in told.splitlines()]
 
 
@@ -212,41 +217,67 @@ def random_schedule(rr, seed, nodes, steps, *more):
     return subprocess.run([rr, "random", *words], capture_output=True, check=True).stdout
 
 
-def knows(rr, lines, node, instance):
-    """Whether a node that is left alone behind these lines of a schedule comes to tell a decision, or opens anew with it."""
-    flush = [f"dev {node}"] * 60 + [f"mark {node}", f"take {node}"]
-    opening = [f"crash {node} 4294967295 4294967295 -", f"restart {node}"] + [f"dev {node}"] * 60
-    text = "\n".join(lines + 3 * flush + [f"send {node}"] * 200 + opening) + "\n"
-    report = subprocess.run([rr, "sim"], input=text.encode(), capture_output=True, check=True).stdout.decode()
-    told = [line.split() for line in report.splitlines()]
-    sent = any(words[0] == "send" and words[2] == str(node) and words[4:6] == ["decision", str(instance)] for words in told)
-    kept = [int(words[3]) for words in told if words[:2] == ["restart", str(node)]]
-    return sent or (kept and kept[-1] > instance)
+def data_of(page):
+    """The objects of JSON in a page."""
+    return [json.loads(line) for line in re.search(r'<script id="data" type="application/json">(.*?)</script>', page.read_text(), re.S)[1].split("\n") if line]
 
 
-def deciding(rr, schedule, objects):
-    """The line of the event that decided each instance, as the simulator has it."""
-    lines = schedule.decode().splitlines()
-    messages = {it["number"]: it for it in objects if it["kind"] == "send"}
-    decided = {}
-    for it in objects:
-        words = it["event"]["text"].split() if "event" in it else []
-        if words[:1] != ["hear"] or it["kind"] != "done" or messages[int(words[2])]["message"]["kind"] != "ack":
-            continue
-        line, instance = it["event"]["line"], messages[int(words[2])]["message"]["instance"]
-        if instance not in decided and knows(rr, lines[:line], words[1], instance) and not knows(rr, lines[:line - 1], words[1], instance):
-            decided[instance] = line
+def nodes_of(page):
+    return data_of(page)[0]["nodes"]
+
+
+def decisions_in(objects):
+    """The line of the event that decides an instance, by the instance, as the data of a page have it."""
+    return {it["decides"]: it["event"]["line"] for it in objects if "decides" in it}
+
+
+def pushed(schedule, seed):
+    """A schedule with more ticks, advances and suspicions: nodes leave rounds whose acknowledgements are on their way."""
+    lines, chance = schedule.decode().splitlines(), random.Random(seed)
+    nodes = int(lines[0].split()[1])
+    more = lambda: chance.choice(["advance {}", "advance {}", "tick {}", "suspect {} " + str(chance.randrange(nodes))]).format(chance.randrange(nodes))
+    return "".join(f"{line}\n" + (f"{more()}\n" if place and chance.random() < 0.02 else "") for place, line in enumerate(lines)).encode()
+
+
+def compare_runs(check, rr, folder, parts, runs):
+    """Compares what the pages of faulty runs say has decided with the nodes in Python. Gives how many instances are decided."""
+    decided = 0
+    for seed in range(runs):
+        nodes = 1 + seed % 7
+        schedule = random_schedule(rr, seed, nodes, 300 + 100 * (seed % 6), "--faults", str(5 + seed % 60))
+        if seed % 3 == 2:
+            schedule = pushed(schedule, seed)
+        page, told = made(rr, folder, "run", schedule, parts)
+        events = [it for it in told if "event" in it]
+        data = data_of(page)
+        check.that(f"run {seed}: the number of nodes", data[0] == {"kind": "run", "nodes": nodes}, data[0])
+        bare = [{name: value for name, value in it.items() if name != "decides"} for it in data[1:]]
+        check.that(f"run {seed}: the data are the run's", bare == told)
+        wanted, found = deciding.decisions(nodes, events), decisions_in(data)
+        check.that(f"run {seed} of {nodes} nodes: what decided", found == wanted, {it: (found.get(it), wanted.get(it)) for it in {*found, *wanted} if found.get(it) != wanted.get(it)})
+        check.that(f"run {seed}: an instance is decided once", len(found) == sum("decides" in it for it in data))
+        decided += len(wanted)
     return decided
 
 
-def compare_decisions(browser, check, rr, page, objects, schedule):
-    """Compares the events that a page says have decided with those of the simulator. Gives how many it names, and of how many."""
-    browser.open(page.as_uri())
-    named = dict(browser.run("return [...decisions].map(([instance, index]) => [instance, events[index].line])"))
-    decided = deciding(rr, schedule, objects)
-    wrong = {it: (line, decided.get(it)) for it, line in named.items() if decided.get(it) != line}
-    check.that(f"{page.stem}: what it says decided an instance", not wrong, wrong)
-    return len(named), len(decided)
+def compare_tape(check, rr, folder, parts):
+    """The same of a tape, on which all nodes are up from the beginning."""
+    for place, tape in enumerate(sorted((ROOT / "examples").glob("*.tape"))):
+        page, told = made(rr, folder, f"tape {place}", tape.read_bytes(), parts, ["audit", "--explain", "--json"])
+        nodes = int(tape.read_text().split()[1])
+        wanted, found = deciding.decisions(nodes, [it for it in told if "event" in it], True), decisions_in(data_of(page))
+        check.that(f"{tape.name}: what decided", found == wanted and len(wanted) > 0, (found, wanted))
+
+
+def compare_cut(check, rr, folder):
+    """A page of some lines has the data of these alone."""
+    schedule = random_schedule(rr, 5, 3, 2000)
+    page = folder / "cut.html"
+    page.write_bytes(subprocess.run([rr, "draw", "--html", "--from", "100", "--to", "400"], input=schedule, capture_output=True, check=True).stdout)
+    whole, _ = made(rr, folder, "whole", schedule, False)
+    wanted = [it for it in data_of(whole) if "event" not in it or 100 <= it["event"]["line"] <= 400]
+    check.that("a page of some lines has the data of these", data_of(page) == wanted)
+    check.that("a page of some lines is small", page.stat().st_size < whole.stat().st_size / 3)
 
 
 def try_large(browser, check, page, count, shots, width):
@@ -270,7 +301,24 @@ def try_large(browser, check, page, count, shots, width):
     check.that(f"{count} events open in three seconds for each 50,000", opened < 3 * max(1, count / 50000), opened)
     check.that("a click takes a fifth of a second with what asks for it", clicked < 0.2, clicked)
     print(f"{width} pixels: {count} events opened in {opened:.2f} s of a processor, and a click took {clicked:.2f} s")
-    shots and browser.shot(shots / f"large-{width}.png")
+    shots and browser.shot(shots / f"{page.stem}-{width}.png")
+
+
+def try_browser(check, given, folder):
+    """Opens the pages of the examples and of large runs."""
+    named = [(it.stem, it.read_bytes()) for it in sorted((ROOT / "examples").glob("*.schedule"))]
+    named.append(("script_in_a_value", (ROOT / "examples/one_command.schedule").read_bytes().replace(b"claim a x", b"claim a </script><b>&amp;")))
+    pages = [made(given.rr, folder, name, text, given.parts) for name, text in named]
+    large = [made(given.rr, folder, f"large{count}", random_schedule(given.rr, 7, 3, count), given.parts) for count in given.events]
+    for width, height in WIDTHS:
+        browser = Browser(width, height)
+        for page, told in pages:
+            read(browser, check, page, told, given.shots if page.stem in ("suspected_coordinator", "two_of_seven_down") else None, width)
+        browser.close()
+        for page, told in large:
+            browser = Browser(width, height)
+            try_large(browser, check, page, sum("event" in it for it in told), given.shots, width)
+            browser.close()
 
 
 def main():
@@ -278,29 +326,19 @@ def main():
     parser.add_argument("--rr", default="rr")
     parser.add_argument("--shots", type=pathlib.Path)
     parser.add_argument("--parts", action="store_true")
-    parser.add_argument("--runs", type=int, default=20)
-    parser.add_argument("--events", type=int, default=50000)
+    parser.add_argument("--runs", type=int, default=1000)
+    parser.add_argument("--events", type=int, nargs="*", default=[50000, 200000])
+    parser.add_argument("--no-browser", action="store_true")
     given = parser.parse_args()
     check = Checks()
     with tempfile.TemporaryDirectory() as folder:
         folder = pathlib.Path(folder)
-        named = [(it.stem, it.read_bytes()) for it in sorted((ROOT / "examples").glob("*.schedule"))]
-        named.append(("script_in_a_value", (ROOT / "examples/one_command.schedule").read_bytes().replace(b"claim a x", b"claim a </script><b>&amp;")))
-        pages = [(made(given.rr, folder, name, text, given.parts), text) for name, text in named]
-        large, objects = made(given.rr, folder, "large", random_schedule(given.rr, 7, 3, given.events), given.parts)
-        count = sum("event" in it for it in objects)
-        for width, height in WIDTHS:
-            browser = Browser(width, height)
-            for (page, told), _ in pages:
-                read(browser, check, page, told, given.shots if page.stem in ("suspected_coordinator", "script_in_a_value") else None, width)
-            try_large(browser, check, large, count, given.shots, width)
-            browser.close()
-        browser = Browser(*WIDTHS[0])
-        drawn = [(f"seed {seed}", random_schedule(given.rr, seed, 2 + seed % 4, 500, "--faults", "30")) for seed in range(given.runs)]
-        runs = pages + [(made(given.rr, folder, name, text, given.parts), text) for name, text in drawn]
-        sums = [compare_decisions(browser, check, given.rr, *made_page, text) for made_page, text in runs]
-        browser.close()
-        print(f"{sum(it[0] for it in sums)} of {sum(it[1] for it in sums)} deciding events are named")
+        decided = compare_runs(check, given.rr, folder, given.parts, given.runs)
+        print(f"{given.runs} runs decided {decided} instances")
+        compare_tape(check, given.rr, folder, given.parts)
+        compare_cut(check, given.rr, folder)
+        if not given.no_browser:
+            try_browser(check, given, folder)
     print(f"{check.passed} passed, {check.failed} failed")
     return check.failed > 0
 

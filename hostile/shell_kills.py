@@ -39,8 +39,8 @@ class Wrong(Exception):
 class Shell:
     """A shell that runs, asked line by line."""
 
-    def __init__(self, rr, nodes, folder, env=None):
-        words = [rr, "shell", "--nodes", str(nodes), "--dir", folder, "--client", "7"]
+    def __init__(self, rr, nodes, folder, env=None, client=7, more=()):
+        words = [rr, "shell", "--nodes", str(nodes), "--dir", folder, "--client", str(client), *more]
         pipe = subprocess.PIPE
         self.child = subprocess.Popen(words, stdin=pipe, stdout=pipe, stderr=pipe, bufsize=0, env=env)
         self.lines = Lines(self.child.stdout)
