@@ -63,9 +63,10 @@ def bash(commands, options):
     for command in commands:
         words = " ".join(it for option in command.options for it in option.spellings)
         cases.append(f"    {command.name}) words='{words}'; takes={command.takes} ;;")
-    valued = [option for command in commands for option in command.options if option.value]
-    values = {spelled: kind(option.value) for option in valued for spelled in option.spellings}
-    rows = [f"    {name}) takes={takes}; words= ;;" for name, takes in sorted(values.items())]
+    # (an option of one name may have a value with one command and none with another, as --tape of run and draw)
+    valued = [(command.name, option) for command in commands for option in command.options if option.value]
+    values = {f"{name}:{spelled}": kind(option.value) for name, option in valued for spelled in option.spellings}
+    rows = [f"    {pair}) takes={takes}; words= ;;" for pair, takes in sorted(values.items())]
     names = " ".join(command.name for command in commands)
     top = " ".join(it for option in options for it in option.spellings)
     return "\n".join(
@@ -80,15 +81,15 @@ def bash(commands, options):
             "  case ${COMP_WORDS[1]} in",
             *cases,
             "  esac",
-            "  case $before in",
+            "  case ${COMP_WORDS[1]}:$before in",
             *rows,
             "  esac",
             f"  [ $takes != commands ] || words='{names}'",
             "  COMPREPLY=($(compgen -W \"$words\" -- \"$current\"))",
             "  case $current:$takes in",
             "    -*) ;;",
-            "    *:files) compopt -o filenames; COMPREPLY+=($(compgen -f -- \"$current\")) ;;",
-            "    *:folders) compopt -o filenames; COMPREPLY+=($(compgen -d -- \"$current\")) ;;",
+            "    *:files) compopt -o filenames; mapfile -t -O ${#COMPREPLY[@]} COMPREPLY < <(compgen -f -- \"$current\") ;;",
+            "    *:folders) compopt -o filenames; mapfile -t -O ${#COMPREPLY[@]} COMPREPLY < <(compgen -d -- \"$current\") ;;",
             "  esac",
             "}",
             f"complete -F _rr {' '.join(PROGRAMS)}",

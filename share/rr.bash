@@ -17,33 +17,40 @@ _rr() {
     audit) words='--explain --json -h --help'; takes=files ;;
     show) words='--json -h --help'; takes=folders ;;
     verify) words='--json -h --help'; takes=folders ;;
-    export) words='--list -h --help'; takes=folders ;;
+    export) words='--list --json -h --help'; takes=folders ;;
     migrate) words='--node --nodes -h --help'; takes=folders ;;
     help) words=''; takes=commands ;;
   esac
-  case $before in
-    --client) takes=nothing; words= ;;
-    --command) takes=nothing; words= ;;
-    --dir) takes=folders; words= ;;
-    --faults) takes=nothing; words= ;;
-    --from) takes=nothing; words= ;;
-    --instance) takes=nothing; words= ;;
-    --node) takes=nothing; words= ;;
-    --nodes) takes=nothing; words= ;;
-    --script) takes=files; words= ;;
-    --seed) takes=nothing; words= ;;
-    --steps) takes=nothing; words= ;;
-    --tape) takes=files; words= ;;
-    --tick) takes=nothing; words= ;;
-    --to) takes=nothing; words= ;;
-    -c) takes=nothing; words= ;;
+  case ${COMP_WORDS[1]}:$before in
+    draw:--from) takes=nothing; words= ;;
+    draw:--instance) takes=nothing; words= ;;
+    draw:--node) takes=nothing; words= ;;
+    draw:--to) takes=nothing; words= ;;
+    migrate:--node) takes=nothing; words= ;;
+    migrate:--nodes) takes=nothing; words= ;;
+    random:--faults) takes=nothing; words= ;;
+    random:--nodes) takes=nothing; words= ;;
+    random:--seed) takes=nothing; words= ;;
+    random:--steps) takes=nothing; words= ;;
+    run:--dir) takes=folders; words= ;;
+    run:--nodes) takes=nothing; words= ;;
+    run:--script) takes=files; words= ;;
+    run:--tape) takes=files; words= ;;
+    run:--tick) takes=nothing; words= ;;
+    shell:--client) takes=nothing; words= ;;
+    shell:--command) takes=nothing; words= ;;
+    shell:--dir) takes=folders; words= ;;
+    shell:--nodes) takes=nothing; words= ;;
+    shell:--tick) takes=nothing; words= ;;
+    shell:-c) takes=nothing; words= ;;
+    sweep:--seed) takes=nothing; words= ;;
   esac
   [ $takes != commands ] || words='sim stats check random sweep draw run shell audit show verify export migrate help'
   COMPREPLY=($(compgen -W "$words" -- "$current"))
   case $current:$takes in
     -*) ;;
-    *:files) compopt -o filenames; COMPREPLY+=($(compgen -f -- "$current")) ;;
-    *:folders) compopt -o filenames; COMPREPLY+=($(compgen -d -- "$current")) ;;
+    *:files) compopt -o filenames; mapfile -t -O ${#COMPREPLY[@]} COMPREPLY < <(compgen -f -- "$current") ;;
+    *:folders) compopt -o filenames; mapfile -t -O ${#COMPREPLY[@]} COMPREPLY < <(compgen -d -- "$current") ;;
   esac
 }
 complete -F _rr rr rr-unproved

@@ -1,11 +1,12 @@
 "use strict";
-// The page's script. Its data are the lines that `rr sim --explain --json` prints; the picture is the one that `rr draw` prints.
+// The page's script. Its data are a line with the number of nodes and those that `rr sim --explain --json` prints of the events that are
+// on the page, with the instances that they decide. The picture is the one that `rr draw` prints.
 // Neither is walked as a whole after the page is open: what depends on what, and what is in sight, is looked up in tables.
 const at = (id) => document.getElementById(id);
 
-// Both stand in elements whose text a browser takes as it is, since that opens fastest; of the data, HTML's spellings are undone here.
+// Both stand in elements whose text a browser takes as it is, since that opens fastest.
+const objects = JSON.parse(`[${at("data").textContent.trim().replaceAll("\n", ",")}]`);
 const unspelled = (text) => text.replaceAll("&quot;", '"').replaceAll("&lt;", "<").replaceAll("&gt;", ">").replaceAll("&amp;", "&");
-const objects = JSON.parse(`[${unspelled(at("data").textContent).trim().replaceAll("\n", ",")}]`);
 const FIELDS = ["words", "node", "kind", "instance"];
 
 // An event: its line, its words, its kind and node, its place among its node's events, and the message that it sends or hears.
@@ -16,12 +17,12 @@ const events = objects.filter((object) => object.event).map((object) => {
 });
 const place = new Map(events.map((event, index) => [event.line, index]));
 
-// The picture: its text, and the places of the nodes' lines from the left. All nodes have one, also those that never start.
+// The picture: its text, and the places of the nodes' lines from the left.
 const source = at("source").textContent;
 const body = source.indexOf('<path class="z"');
 const front = source.slice(0, body);
-const origins = [...source.matchAll(/<text class="h" x="(\d+)"/g)].map((found) => Number(found[1]));
-const nodes = origins.length;
+const origins = [...source.slice(0, body + 4000).matchAll(/<text class="h" x="(\d+)"/g)].map((found) => Number(found[1]));
+const { nodes } = objects[0];
 let [, full_width, height] = /viewBox="0 0 (\d+) (\d+)"/.exec(front).map(Number);
 
 // What an event stands on directly: the event before it at its node and, of a message that is heard, where that was sent.
@@ -108,98 +109,13 @@ for (const event of events) {
   event.name = command?.name ?? (is_submit ? words[5] : undefined);
 }
 
-// The hearings of acks that can have decided an instance: each completes a majority for a round, counted since its node is open.
-// A node forgets what it counted in a crash.
-function find_majorities() {
-  const majorities = new Map();
-  const tallies = new Map();
-  const lives = new Int32Array(nodes);
-  events.forEach(({ object, kind, node, message }, index) => {
-    if (object.kind === "restart") lives[node] += 1;
-    if (kind !== "hear" || message?.kind !== "ack") return;
-    const key = `${node}.${lives[node]}.${message.instance}.${message.round}`;
-    if (!tallies.has(key)) tallies.set(key, new Set());
-    const tally = tallies.get(key);
-    const size = tally.size;
-    tally.add(events[sending[index]].node);
-    if (2 * size > nodes || 2 * tally.size <= nodes) return;
-    if (!majorities.has(message.instance)) majorities.set(message.instance, []);
-    majorities.get(message.instance).push({ index, node, life: lives[node], round: message.round });
-  });
-  return majorities;
-}
-
-// What each node tells of each instance, and when: the rounds that it is in, that it knows the decision, and that it hears of one.
-// A reply tells that it knows the decisions up to that of the request, and an opening how many were kept in the life before.
-class Tellings {
-  constructor() {
-    this.of = new Map();
-    this.lives = new Int32Array(nodes);
-    this.known = new Int32Array(nodes);
-    const requests = objects.filter((object) => object.kind === "command").reverse();
-    this.places = new Map(requests.map(({ place: instance, command }) => [`${command.client}.${command.request}`, instance]));
-    events.forEach((event, index) => this.read(event, index));
-  }
-
-  add(node, instance, telling) {
-    const key = `${node}.${instance}`;
-    if (!this.of.has(key)) this.of.set(key, []);
-    this.of.get(key).push({ life: this.lives[node], ...telling });
-  }
-
-  knows(index, node, count) {
-    for (; this.known[node] < count; this.known[node] += 1) this.add(node, this.known[node], { index, is_decision: true });
-  }
-
-  read({ object, kind, node, message }, index) {
-    if (object.kind === "restart") {
-      this.knows(index, node, object.decided);
-      this.lives[node] += 1;
-    } else if (object.kind === "ack") {
-      this.knows(index, node, 1 + (this.places.get(`${object.client}.${object.request}`) ?? -1));
-    } else if (message?.kind === "decision") {
-      this.add(node, message.instance, { index, is_decision: true, is_heard: kind === "hear" });
-    } else if (kind === "send" && ["estimate", "proposal", "ack"].includes(message?.kind)) {
-      this.add(node, message.instance, { index, round: message.round });
-    }
-  }
-}
-
-// Whether a majority decided: yes where its node tells the decision in the same life, and nobody had told it that; no where the node
-// had gone on to another round or knew the decision. Else it is open: `undefined`.
-function has_decided({ index, node, life, round }, told) {
-  for (const telling of told) {
-    const is_earlier = telling.index < index;
-    if (telling.is_heard) return is_earlier && telling.life === life ? false : undefined;
-    if (telling.is_decision && is_earlier) return false;
-    if (telling.life > life) return undefined;
-    if (telling.is_decision) return true;
-    if (telling.round > round) return false;
-  }
-  return undefined;
-}
-
-// The event that decided an instance, by the instance. Where the data leave that open, the instance isn't in it.
-function find_decisions() {
-  const decisions = new Map();
-  const tellings = new Tellings();
-  for (const [instance, majorities] of find_majorities()) {
-    for (const majority of majorities) {
-      const has = has_decided(majority, tellings.of.get(`${majority.node}.${instance}`) ?? []);
-      if (has) decisions.set(instance, majority.index);
-      if (has !== false) break;
-    }
-  }
-  return decisions;
-}
-
-const decisions = find_decisions();
+// The event that decided an instance, by the instance: the run says which.
+const decisions = new Map(events.flatMap(({ object }, index) => object.decides === undefined ? [] : [[object.decides, index]]));
 
 // The picture's items in their order: marks of a line each, and elements of an event each. Of each: where its text begins and
 // ends, how far down it reaches from and to, and its event. `items` has the item of each event, or -1 where a cut leaves it out.
 let [begins, ends, tops, bottoms, owners] = [[], [], [], [], []];
 const items = new Int32Array(events.length).fill(-1);
-let [crash_heights, decided_heights] = [[], []];
 
 // How far down the numbers of shapes reach: those of marks and boxes, and of paths. Words have none of a path.
 const HEIGHTS = / c?y[12]?="(\d+)"(?: width="\d+" height="(\d+)")?|[MC ]\d+ (\d+)|V(\d+)/g;
@@ -221,21 +137,38 @@ function extent(shapes) {
   return [top, bottom];
 }
 
-function read_item(begin, end, is_event) {
-  const item = begins.length;
-  const shapes = source.slice(is_event ? source.indexOf("</title>", begin) : begin, end);
-  const [top, bottom] = extent(shapes);
-  const index = is_event ? place.get(Number.parseInt(source.slice(begin + 15, begin + 30), 10)) ?? -1 : -1;
+// The place of an event's element that is clicked. What is drawn before it are the shapes that may reach far up.
+const BOX = /<rect class="x" x="\d+" y="(\d+)" width="\d+" height="(\d+)"/g;
+
+function keep_item(begin, end, top, bottom, index) {
   begins.push(begin);
   ends.push(end);
   tops.push(top - 8);
   bottoms.push(bottom + 8);
   owners.push(index);
-  if (index < 0) return;
-  items[index] = item;
-  events[index].y = Number(/<rect class="x" x="\d+" y="(\d+)"/.exec(shapes)[1]) + 2;
-  if (shapes.includes('href="#x"')) crash_heights.push(events[index].y);
-  if (shapes.includes('href="#k"')) decided_heights.push(events[index].y);
+}
+
+function read_mark(begin, end) {
+  const [top, bottom] = extent(source.slice(begin, end));
+  keep_item(begin, end, top, bottom, -1);
+}
+
+function read_event(begin, end) {
+  const index = place.get(Number.parseInt(source.slice(begin + 15, begin + 30), 10)) ?? -1;
+  const shapes = source.indexOf("</title>", begin) + "</title>".length;
+  BOX.lastIndex = shapes;
+  const box = BOX.exec(source);
+  const y = Number(box[1]);
+  let [top, bottom] = [y, y + Number(box[2])];
+  if (box.index > shapes) {
+    const [above, below] = extent(source.slice(shapes, box.index));
+    [top, bottom] = [Math.min(top, above), Math.max(bottom, below)];
+  }
+  if (index >= 0) {
+    items[index] = begins.length;
+    events[index].y = y + 2;
+  }
+  keep_item(begin, end, top, bottom, index);
 }
 
 function read_items() {
@@ -244,7 +177,8 @@ function read_items() {
     const is_event = source.startsWith("<g>", begin);
     const end = is_event ? source.indexOf("</g>\n", begin) + 4 : source.indexOf("\n", begin);
     const is_head = source.startsWith('<path class="z"', begin);
-    if (!is_head) read_item(begin, end, is_event);
+    if (is_event) read_event(begin, end);
+    else if (!is_head) read_mark(begin, end);
     begin = end + 1;
   }
 }
@@ -277,6 +211,10 @@ function items_within(top, bottom) {
 
 read_items();
 fill_levels();
+
+// How far down the events are that crash a node, and those that decide an instance.
+const crash_heights = events.filter((event) => event.kind === "crash" && event.y).map((event) => event.y);
+const decided_heights = [...decisions.values()].map((index) => events[index].y).filter((y) => y);
 
 function title_of(index) {
   const item = items[index];
@@ -364,26 +302,45 @@ function sight() {
   return { top, bottom: top + clientHeight / layout.unit };
 }
 
-// Makes the elements of what is in sight, and of as much above and below it. What is drawn stays where it is enough.
+function set_states() {
+  const { gap } = layout;
+  const states = { filtered: is_filtered, chosen: is_marked, narrow: gap < 130 && nodes > 1, tight: gap < 60 && nodes > 1 };
+  for (const [name, holds] of Object.entries(states)) at("scene").classList.toggle(name, holds);
+}
+
+// Makes the elements of what is in sight, and of as much above and below it. What is drawn stays where it is enough; it tells which.
 function draw_window() {
   const { top, bottom } = sight();
-  if (drawn && drawn.top <= Math.max(FIRST, top) && drawn.bottom >= Math.min(height, bottom)) return;
+  if (drawn && drawn.top <= Math.max(FIRST, top) && drawn.bottom >= Math.min(height, bottom)) return false;
   drawn = { top: Math.max(FIRST, Math.floor(2 * top - bottom)), bottom: Math.min(height, Math.ceil(2 * bottom - top)) };
-  const { unit, width, columns, gap } = layout;
+  const { unit, width, columns } = layout;
   const svg = at("scene");
   const had_focus = svg.contains(document.activeElement);
   svg.setAttribute("viewBox", `0 ${drawn.top} ${width} ${drawn.bottom - drawn.top}`);
   Object.assign(svg.style, { top: `${(drawn.top - FIRST) * unit}px`, width: `${width * unit}px`, height: `${(drawn.bottom - drawn.top) * unit}px` });
   const lines = columns.map((x) => `<path class="z" d="M${x} ${drawn.top}V${drawn.bottom}"/>`);
   svg.innerHTML = lines.join("") + items_within(drawn.top, drawn.bottom).map(markup_of).join("\n");
-  const states = { filtered: is_filtered, chosen: is_marked, narrow: gap < 130 && nodes > 1, tight: gap < 60 && nodes > 1 };
-  for (const [name, holds] of Object.entries(states)) svg.classList.toggle(name, holds);
+  set_states();
   if (had_focus) (shape_of(chosen) ?? at("picture")).focus({ preventScroll: true });
+  return true;
+}
+
+// Gives what is drawn the classes that it has now.
+function restyle() {
+  set_states();
+  for (const shape of at("scene").querySelectorAll("g[data-line]")) {
+    const index = place.get(Number(shape.dataset.line));
+    const classes = classes_of(index);
+    if (shape.getAttribute("class") !== classes) shape.setAttribute("class", classes);
+    const is_here = is_marked && index === chosen;
+    if (is_here === (shape.tabIndex === 0)) continue;
+    shape.setAttribute("tabindex", is_here ? 0 : -1);
+    shape.setAttribute("aria-pressed", is_here);
+  }
 }
 
 function redraw() {
-  drawn = undefined;
-  draw_window();
+  if (!draw_window()) restyle();
   draw_strip();
 }
 
@@ -522,6 +479,7 @@ function describe(index) {
   const { event: _, ...told } = event.object;
   const parts = [element("h2", `Line ${event.line}`), element("pre", event.text)];
   if (event.note) parts.push(element("p", event.note));
+  if (told.decides !== undefined) parts.push(element("p", `It decides instance ${told.decides}.`));
   const lines = title_text(index).split("\n").slice(1).join("\n");
   if (lines) parts.push(element("pre", lines));
   if (told.kind !== "done" && told.kind !== "idle") parts.push(element("pre", JSON.stringify(told, null, 1)));

@@ -11,13 +11,13 @@ FOLDER = pathlib.Path(__file__).resolve().parent
 
 def main():
     old = pathlib.Path(sys.argv[1]).read_text()
-    data = re.search(r'<(pre|noscript) id="data" hidden>(.*?)</\1>', old, re.S)
+    data = re.search(r'<script id="data" type="application/json">\n(.*?)</script>', old, re.S)
     picture = old[old.index("<svg xmlns", data.end()):]
     picture = picture[:picture.index("\n</svg>\n") + len("\n</svg>\n")]
     page = (FOLDER / "page.html").read_text()
     for part in ("page.css", "page.js"):
         page = page.replace("{{%s}}" % part, (FOLDER / part).read_text())
-    for name, text in (("{{data}}", data[2]), ("{{picture}}", picture)):
+    for name, text in (("{{data}}", data[1]), ("{{picture}}", picture)):
         front, back = page.split(name)
         page = front + text + back
     sys.stdout.write(page)
