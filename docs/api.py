@@ -13,7 +13,7 @@ import re
 import sys
 
 CRATES = pathlib.Path(__file__).resolve().parent.parent / "crates"
-HEAD = re.compile(r"(pub )?(?:const |unsafe )*(fn|struct|enum|trait|const|type|impl|ghost)\b")
+HEAD = re.compile(r"(pub )?(?:pub\([a-z]+\) )?(?:const |unsafe )*(fn|struct|enum|trait|const|type|impl|ghost)\b")
 CLAUSE = re.compile(r"(requires|ensures)(?: (\w+))? \{(.*)\}", re.DOTALL)
 WORD = re.compile(r"[A-Za-z_][\w'-]*|[^\w\s(){}\[\].,;:◌]+|[ℕλ]")
 DEFINED = re.compile(r"(?:abbrev |unfoldable )*(?:pub )?(?:record |data )?(\S+)")
@@ -125,6 +125,10 @@ def read_item(lines, at, indent, begins, docs):
     """The item that begins here, and the line where it ends."""
     kind = begins.group(2)
     end = last = end_of_head(lines, at, indent, kind not in ("ghost", "const", "type"))
+    if kind == "const" and len(re.findall(r'(?<!\\)"', lines[at])) % 2:
+        # (a text of several lines, which may look like items)
+        end = next(number for number in range(at + 1, len(lines)) if re.search(r'(?<!\\)";$', lines[number]))
+        last = at
     if lines[last].endswith("{"):
         end = next(number for number in range(last + 1, len(lines)) if lines[number] == " " * indent + "}")
     signature, clauses = split_head(lines[at : last + 1], indent)
