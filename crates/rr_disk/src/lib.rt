@@ -33,6 +33,7 @@ mod file;
 mod held;
 mod loose;
 mod memory;
+mod reopen;
 mod strip;
 
 pub use area::Area;
@@ -42,3 +43,4 @@ pub use disk::Disk;
 pub use failing::FailingDisk;
 pub use file::{FileDisk, make_folder};
 pub use memory::MemDisk;
+pub use reopen::Reopen;
