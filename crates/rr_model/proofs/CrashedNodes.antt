@@ -20,7 +20,7 @@ left_is_chosen n w I p count i v c =
     I.decides p i v
     (subst (λ z. Contains z (Decide i v)) (settled_whole w p count) (Contains-append_left (settled w p count) (drop count (w.staged p)) (Decide i v) c))
 
-decided_is_chosen : (n : ℕ) (w : World) → Invariant n w → (p count i : ℕ) (v : Command) → decision_of (standing_of i (settled w p count)) ≡ Some v → IsChosen n w.wire i v
+pub decided_is_chosen : (n : ℕ) (w : World) → Invariant n w → (p count i : ℕ) (v : Command) → decision_of (standing_of i (settled w p count)) ≡ Some v → IsChosen n w.wire i v
 decided_is_chosen n w I p count i v d = elim (decided_by None i v (settled w p count) d) [
   | inl e ↦ absurd (none-some v e)
   | inr c ↦ left_is_chosen n w I p count i v c

@@ -1,7 +1,9 @@
--- A history whose starts find their facts is a sound run of the world, and what it says agrees with one list.
-use Rattle.std.proofs.Common.{◌≡◌, ℕ, zero, suc, List, [], ◌∷◌, ◌++◌, length, take, drop, Contains, Some, refl, sym, ◌∙◌, ap, subst, arith, append-nil, append_assoc, take-append-drop}
+-- What nodes say agrees with one list, in each history whose starts find their facts, also where disks are made anew.
+use Rattle.std.proofs.Common.{◌≡◌, ℕ, zero, suc, List, [], ◌∷◌, ◌++◌, length, take, Contains, Some, slice_get, refl, sym, ◌∙◌, ap, subst, arith}
 use Rattle.std.specs.List.{flat_map}
 use Rattle.std.proofs.lemmas.List.Concat.{flat_map-append}
+use Rattle.std.proofs.lemmas.List.{take_at}
+use Rattle.std.proofs.lemmas.List.Elements.{Contains-append_left}
 use Rattle.rr_types.specs.declared.command.Command.{Command}
 use Rattle.rr_types.specs.declared.command.RequestNo.{RequestNo}
 use Rattle.rr_types.specs.declared.command.Reply.{Reply}
@@ -14,95 +16,64 @@ use Rattle.rr_types.specs.Registry.{reply_of}
 use Rattle.rr_model.specs.declared.deed.Deed.{Deed}
 use Rattle.rr_model.specs.declared.deed.What.{What}
 use Rattle.rr_model.specs.declared.deed.What.TheVariants.{Told, Sent, Acked, Up}
-use Rattle.rr_model.specs.Deeds.{Lives, nothing_done, after_deed, after_deeds, sent_by, IsHistoryFrom, IsHistory, FindsItsFacts, OpensWellFrom, OpensWell, deed_of, AgreesWithOneList}
-use Rattle.rr_model.specs.Lawful.{Says}
-use Rattle.rr_model.specs.Laws.{after_steps, settled}
-use Rattle.rr_model.specs.NodeInWorld.{IsDownIn}
-use Rattle.rr_model.specs.Sound.{IsDecidedList, IsSound}
-use Rattle.rr_model.specs.World.{World, Step, Acknowledged, empty_world, decided_prefix, IsRun, IsRunFrom, end_of}
-use Rattle.rr_model.proofs.CrashedNodes.{begin_the_list, know_their_replies}
-use Rattle.rr_model.proofs.DeedsInWorld.{told_by, submitted_by, IsAlike, Took, takes, down_is, none_proper}
-use Rattle.rr_model.proofs.Invariants.{at_start}
-use Rattle.rr_model.proofs.Laws.{after_steps-append, decided_list_grows, later_commands_stand_behind}
-use Rattle.rr_model.proofs.NodeFollows.{run_on}
+use Rattle.rr_model.specs.Deeds.{Life, Lives, nothing_done, after_deed, sent_by, IsHistoryFrom, IsHistory, FindsItsFacts, OpensWellFrom, OpensWell, deed_of, AgreesWithOneList}
+use Rattle.rr_model.specs.Laws.{settled}
+use Rattle.rr_model.specs.RenewedDisks.{Turn, Does, Renewed, after_turns, MayTurn, AreTurnsFrom, AreTurns, deeds_of, DoTurnsAgree}
+use Rattle.rr_model.specs.Sound.{IsChosen, IsDecidedList}
+use Rattle.rr_model.specs.World.{Acknowledged, empty_world, decided_prefix}
+use Rattle.rr_model.proofs.DeedsInWorld.{told_by, submitted_by, down_is, left_shift}
+use Rattle.rr_model.proofs.Growth.{chosen_grows}
+use Rattle.rr_model.proofs.Invariants.{no_place}
+use Rattle.rr_model.proofs.Laws.{stands_behind}
+use Rattle.rr_model.proofs.Listed.{decided_list}
 use Rattle.rr_model.proofs.NodePrefixes.{same_prefix}
 use Rattle.rr_model.proofs.Places.{place_of, Contains-split}
-use Rattle.rr_model.proofs.Soundness.{sound, sound_list}
+use Rattle.rr_model.proofs.Prefixes.{Begins}
+use Rattle.rr_model.proofs.Shifted.{IsShifted, shifted_prefix}
+use Rattle.rr_model.proofs.TurnsInWorld.{starts_alike, TookAll, take_all, turns_front, turns_append, turns_wire, chosen_begins, one_here, list_submitted, left_chosen, left_replies, list_replies, decision_chosen}
 
--- ---- deeds take the world along
+-- ---- turns up to a deed
 
-starts_alike : (n : ℕ) → IsAlike n nothing_done empty_world
-starts_alike n = record {
-  lives = λ p. record { down = refl; keeps = refl; stages = refl; heard = refl };
-  wire = refl;
-  proper = none_proper n;
-  sound = at_start n;
-}
+-- turns whose deeds are two lists of deeds
+record Cut (ts : List Turn) (before after : List Deed) : Type 0 where
+  first : List Turn
+  second : List Turn
+  is : ts ≡ first ++ second
+  front : deeds_of first ≡ before
+  back : deeds_of second ≡ after
 
-record TookAll (n : ℕ) (ds : List Deed) (v : Lives) (w : World) : Type 0 where
-  steps : List Step
-  run : IsRunFrom n w steps
-  alike : IsAlike n (after_deeds n ds v) (after_steps w steps)
-  sent : (after_steps w steps).wire ≡ w.wire ++ flat_map sent_by ds
-  told : (after_steps w steps).trace ≡ w.trace ++ flat_map told_by ds
-  submitted : (after_steps w steps).submitted ≡ w.submitted ++ flat_map submitted_by ds
+-- one turn more
+cut_more : (t : Turn) (ts : List Turn) (before after more : List Deed) → ((a : List Turn) → deeds_of a ≡ before → deeds_of (t ∷ a) ≡ more) → Cut ts before after → Cut (t ∷ ts) more after
+cut_more t ts before after more f c = record { first = t ∷ c.first; second = c.second; is = ap (λ z. t ∷ z) c.is; front = f c.first c.front; back = c.back }
 
-take_all : (n : ℕ) (ds : List Deed) (v : Lives) (w : World) → IsAlike n v w → IsHistoryFrom n v ds → OpensWellFrom n v ds → TookAll n ds v w
-take_all n [] v w a h o = record { steps = []; run = tt; alike = a; sent = sym (append-nil w.wire); told = sym (append-nil w.trace); submitted = sym (append-nil w.submitted) }
-take_all n (d ∷ ds) v w a h o =
-    let t : Took n v d w = takes n v d w a h.0 o.0 in
-    let more : TookAll n ds (after_deed n d v) (after_steps w t.steps) = take_all n ds (after_deed n d v) (after_steps w t.steps) t.alike h.1 o.1 in
-    let joined : after_steps w (t.steps ++ more.steps) ≡ after_steps (after_steps w t.steps) more.steps = after_steps-append w t.steps more.steps in
-    record {
-      steps = t.steps ++ more.steps;
-      run = run_on n w t.steps more.steps t.run more.run;
-      alike = subst (IsAlike n (after_deeds n ds (after_deed n d v))) (sym joined) more.alike;
-      sent = ap (λ (u : World). u.wire) joined ∙ more.sent ∙ ap (λ ms. ms ++ flat_map sent_by ds) t.sent ∙ append_assoc w.wire (sent_by d) (flat_map sent_by ds);
-      told = ap (λ (u : World). u.trace) joined ∙ more.told ∙ ap (λ ts. ts ++ flat_map told_by ds) t.told ∙ append_assoc w.trace (told_by d) (flat_map told_by ds);
-      submitted = ap (λ (u : World). u.submitted) joined ∙ more.submitted ∙ ap (λ cs. cs ++ flat_map submitted_by ds) t.submitted ∙ append_assoc w.submitted (submitted_by d) (flat_map submitted_by ds);
-    }
+-- up to a moment
+cut : (ts : List Turn) (before after : List Deed) → deeds_of ts ≡ before ++ after → Cut ts before after
+cut ts [] after e = record { first = []; second = ts; is = refl; front = refl; back = e }
+cut [] (y ∷ before) after e = absurd (let x : [] ≡ y ∷ (before ++ after) = e in cc)
+cut (Does d ∷ ts) (y ∷ before) after e =
+    let same : d ≡ y = cc in
+    let rest : deeds_of ts ≡ before ++ after = cc in
+    cut_more (Does d) ts before after (y ∷ before) (λ a x. ap (λ z. z ∷ deeds_of a) same ∙ ap (λ z. y ∷ z) x) (cut ts before after rest)
+cut (Renewed p list ∷ ts) (y ∷ before) after e = cut_more (Renewed p list) ts (y ∷ before) after (y ∷ before) (λ a x. x) (cut ts (y ∷ before) after e)
 
--- a history up to a moment, and from there on
-history_front : (n : ℕ) (before after : List Deed) (v : Lives) → IsHistoryFrom n v (before ++ after) → IsHistoryFrom n v before × IsHistoryFrom n (after_deeds n before v) after
-history_front n [] after v h = (tt, h)
-history_front n (d ∷ before) after v h = let r = history_front n before after (after_deed n d v) h.1 in ((h.0, r.0), r.1)
+-- up to a deed
+record CutAt (ts : List Turn) (before : List Deed) (d : Deed) : Type 0 where
+  first : List Turn
+  second : List Turn
+  is : ts ≡ first ++ Does d ∷ second
+  front : deeds_of first ≡ before
 
-opens_front : (n : ℕ) (before after : List Deed) (v : Lives) → OpensWellFrom n v (before ++ after) → OpensWellFrom n v before × OpensWellFrom n (after_deeds n before v) after
-opens_front n [] after v o = (tt, o)
-opens_front n (d ∷ before) after v o = let r = opens_front n before after (after_deed n d v) o.1 in ((o.0, r.0), r.1)
-
--- the steps of both parts of a history
-record InTwo (n : ℕ) (before after : List Deed) : Type 0 where
-  first : List Step
-  second : List Step
-  run : IsRun n (first ++ second)
-  front : IsRun n first
-  alike : IsAlike n (after_deeds n before nothing_done) (end_of first)
-  wire : (end_of (first ++ second)).wire ≡ flat_map sent_by (before ++ after)
-  told : (end_of first).trace ≡ flat_map told_by before
-  submitted : (end_of first).submitted ≡ flat_map submitted_by before
-  told_all : (end_of (first ++ second)).trace ≡ flat_map told_by (before ++ after)
-  submitted_all : (end_of (first ++ second)).submitted ≡ flat_map submitted_by (before ++ after)
-
-in_two : (n : ℕ) (before after : List Deed) → IsHistory n (before ++ after) → OpensWell n (before ++ after) → InTwo n before after
-in_two n before after h o =
-    let hs = history_front n before after nothing_done h in
-    let os = opens_front n before after nothing_done o in
-    let a : TookAll n before nothing_done empty_world = take_all n before nothing_done empty_world (starts_alike n) hs.0 os.0 in
-    let b : TookAll n after (after_deeds n before nothing_done) (after_steps empty_world a.steps) = take_all n after (after_deeds n before nothing_done) (after_steps empty_world a.steps) a.alike hs.1 os.1 in
-    let joined : end_of (a.steps ++ b.steps) ≡ after_steps (after_steps empty_world a.steps) b.steps = after_steps-append empty_world a.steps b.steps in
-    record {
-      first = a.steps;
-      second = b.steps;
-      run = run_on n empty_world a.steps b.steps a.run b.run;
-      front = a.run;
-      alike = a.alike;
-      wire = ap (λ (u : World). u.wire) joined ∙ b.sent ∙ ap (λ ms. ms ++ flat_map sent_by after) a.sent ∙ sym (flat_map-append sent_by before after);
-      told = a.told;
-      submitted = a.submitted;
-      told_all = ap (λ (u : World). u.trace) joined ∙ b.told ∙ ap (λ ts. ts ++ flat_map told_by after) a.told ∙ sym (flat_map-append told_by before after);
-      submitted_all = ap (λ (u : World). u.submitted) joined ∙ b.submitted ∙ ap (λ cs. cs ++ flat_map submitted_by after) a.submitted ∙ sym (flat_map-append submitted_by before after);
-    }
+cut_at : (ts : List Turn) (before : List Deed) (d : Deed) (after : List Deed) → deeds_of ts ≡ before ++ d ∷ after → CutAt ts before d
+cut_at [] before d after e = absurd (no_place before after d e)
+cut_at (Does g ∷ ts) [] d after e = let same : g ≡ d = cc in record { first = []; second = ts; is = ap (λ z. Does z ∷ ts) same; front = refl }
+cut_at (Does g ∷ ts) (y ∷ before) d after e =
+    let same : g ≡ y = cc in
+    let rest : deeds_of ts ≡ before ++ d ∷ after = cc in
+    let c : CutAt ts before d = cut_at ts before d after rest in
+    record { first = Does g ∷ c.first; second = c.second; is = ap (λ z. Does g ∷ z) c.is; front = ap (λ z. z ∷ deeds_of c.first) same ∙ ap (λ z. y ∷ z) c.front }
+cut_at (Renewed p list ∷ ts) before d after e =
+    let c : CutAt ts before d = cut_at ts before d after e in
+    record { first = Renewed p list ∷ c.first; second = c.second; is = ap (λ z. Renewed p list ∷ z) c.is; front = c.front }
 
 -- ---- what deeds give
 
@@ -128,96 +99,135 @@ submitted_in (d ∷ ds) c h = submitted_first d.node d.what ds c (submitted_in d
 
 -- ---- one list
 
-module _ (n : ℕ) (deeds : List Deed) (h : IsHistory n deeds) (o : OpensWell n deeds) where
-  -- the whole of it, nothing behind it
-  whole : InTwo n deeds []
-  whole = in_two n deeds [] (subst (IsHistory n) (sym (append-nil deeds)) h) (subst (OpensWell n) (sym (append-nil deeds)) o)
+module _ (n : ℕ) (ts : List Turn) (h : AreTurns n ts) where
+  -- the world at the end
+  whole : TookAll n ts nothing_done empty_world
+  whole = take_all n ts nothing_done empty_world (starts_alike n) h
 
-  at_moment : (before after : List Deed) → deeds ≡ before ++ after → InTwo n before after
-  at_moment before after e = in_two n before after (subst (IsHistory n) e h) (subst (OpensWell n) e o)
+  -- and at a moment
+  at_moment : (first second : List Turn) → ts ≡ first ++ second → TookAll n first nothing_done empty_world
+  at_moment first second e = take_all n first nothing_done empty_world (starts_alike n) (turns_front n first second nothing_done (subst (AreTurns n) e h)).0
 
-  run : List Step
-  run = whole.first ++ whole.second
-
-  is_sound : IsSound n (whole.first ++ whole.second)
-  is_sound = sound n (whole.first ++ whole.second) whole.run
+  wire_is : (after_turns n ts nothing_done).wire ≡ flat_map sent_by (deeds_of ts)
+  wire_is = turns_wire n ts nothing_done
 
   list : List Command
-  list = is_sound.a_decided_list_exists.0
+  list = (decided_list n (after_turns n ts nothing_done).wire).0
 
-  decided : IsDecidedList n (flat_map sent_by deeds) is_sound.a_decided_list_exists.0
-  decided = subst (λ ds. IsDecidedList n (flat_map sent_by ds) is_sound.a_decided_list_exists.0) (append-nil deeds)
-      (subst (λ ms. IsDecidedList n ms is_sound.a_decided_list_exists.0) whole.wire is_sound.a_decided_list_exists.1)
+  decided : IsDecidedList n (after_turns n ts nothing_done).wire (decided_list n (after_turns n ts nothing_done).wire).0
+  decided = (decided_list n (after_turns n ts nothing_done).wire).1
 
-  -- it is the decided list of the run in two parts, too
-  decided_in : (before after : List Deed) (e : deeds ≡ before ++ after) → IsDecidedList n (end_of ((at_moment before after e).first ++ (at_moment before after e).second)).wire is_sound.a_decided_list_exists.0
-  decided_in before after e = subst (λ ms. IsDecidedList n ms is_sound.a_decided_list_exists.0) (ap (flat_map sent_by) e ∙ sym (at_moment before after e).wire) decided
+  -- what is on the wire at a moment is there at the end
+  wire_grows : (first second : List Turn) → ts ≡ first ++ second → (m : Message) → Contains (after_turns n first nothing_done).wire m → Contains (after_turns n ts nothing_done).wire m
+  wire_grows first second e m c =
+      let more : (after_turns n ts nothing_done).wire ≡ (after_turns n first nothing_done).wire ++ flat_map sent_by (deeds_of second) =
+      ap (λ z. (after_turns n z nothing_done).wire) e ∙ ap (λ (v : Lives). v.wire) (turns_append n first second nothing_done) ∙ turns_wire n second (after_turns n first nothing_done) in
+      subst (λ ms. Contains ms m) (sym more) (Contains-append_left (after_turns n first nothing_done).wire (flat_map sent_by (deeds_of second)) m c)
 
-  told_in : (p : ℕ) (q : RequestNo) (reply : Reply) → Contains deeds (deed_of p (Acked q reply)) → Contains (end_of (whole.first ++ whole.second)).trace (Acknowledged p q reply)
-  told_in p q reply there = subst (λ ts. Contains ts (Acknowledged p q reply)) (ap (flat_map told_by) (sym (append-nil deeds)) ∙ sym whole.told_all) (given_by told_by deeds (deed_of p (Acked q reply)) (Acknowledged p q reply) refl there)
+  chosen_later : (first second : List Turn) → ts ≡ first ++ second → (i : ℕ) (u : Command) → IsChosen n (after_turns n first nothing_done).wire i u → IsChosen n (after_turns n ts nothing_done).wire i u
+  chosen_later first second e i u c = chosen_grows n (after_turns n first nothing_done).wire (after_turns n ts nothing_done).wire (wire_grows first second e) i u c
 
-  told_by_then : (before after : List Deed) (e : deeds ≡ before ++ after) (p : ℕ) (q : RequestNo) (reply : Reply) → Contains before (deed_of p (Acked q reply)) → Contains (end_of (at_moment before after e).first).trace (Acknowledged p q reply)
-  told_by_then before after e p q reply there = subst (λ ts. Contains ts (Acknowledged p q reply)) (sym (at_moment before after e).told) (given_by told_by before (deed_of p (Acked q reply)) (Acknowledged p q reply) refl there)
+  told_at : (first second : List Turn) (e : ts ≡ first ++ second) (p : ℕ) (q : RequestNo) (reply : Reply) → Contains (deeds_of first) (deed_of p (Acked q reply)) → Contains (at_moment first second e).world.trace (Acknowledged p q reply)
+  told_at first second e p q reply there = subst (λ xs. Contains xs (Acknowledged p q reply)) (sym (at_moment first second e).told) (given_by told_by (deeds_of first) (deed_of p (Acked q reply)) (Acknowledged p q reply) refl there)
 
-  says : (p i : ℕ) (m : Message) (v : Command) → Contains deeds (deed_of p (Sent m)) → m.body ≡ Decision i v → Says (end_of (whole.first ++ whole.second)).wire m.from (Decision i v)
-  says p i m v there is = (
-    m.to,
-    subst (λ (x : Message). Contains (end_of (whole.first ++ whole.second)).wire x) (ap (λ b. record { from = m.from; to = m.to; body = b }) is)
-        (subst (λ (ms : List Message). Contains ms m) (ap (flat_map sent_by) (sym (append-nil deeds)) ∙ sym whole.wire) (given_by sent_by deeds (deed_of p (Sent m)) m refl there)),
-  )
-
-  -- what a start finds: the facts of a node that is down, as a crash left them
-  record Finds (before after : List Deed) (p : ℕ) (promise : List Entry) (next : ℕ) (e : deeds ≡ before ++ deed_of p (Up promise next) ∷ after) : Type 0 where
+  -- what a start finds: the decided prefix that a crash left
+  record Finds (before : List Deed) (p : ℕ) (promise : List Entry) (next : ℕ) : Type 0 where
+    at : CutAt ts before (deed_of p (Up promise next))
     count : ℕ
-    same : decided_from 0 promise ≡ decided_prefix (settled (end_of (at_moment before (deed_of p (Up promise next) ∷ after) e).first) p count)
+    same : decided_from 0 promise ≡ decided_prefix (settled (at_moment at.first (Does (deed_of p (Up promise next)) ∷ at.second) at.is).world p count)
 
-  finds : (before after : List Deed) (p : ℕ) (promise : List Entry) (next : ℕ) (e : deeds ≡ before ++ deed_of p (Up promise next) ∷ after) → Finds before after p promise next e
-  finds before after p promise next e = record { count = found.0; same = ap (decided_from 0) found.3 ∙ same_prefix (((after_deeds n before nothing_done).life p).marked ++ take found.0 ((after_deeds n before nothing_done).life p).unmarked) ∙ ap decided_prefix (sym left) }
+  finds : (before after : List Deed) (p : ℕ) (promise : List Entry) (next : ℕ) → deeds_of ts ≡ before ++ deed_of p (Up promise next) ∷ after → Finds before p promise next
+  finds before after p promise next e = record { at = c; count = found.0; same = ap (decided_from 0) found.3 ∙ same_prefix ((life c).marked ++ take found.0 (life c).unmarked) ∙ sym (shifted_prefix n p _ _ left) }
     where
-      two : InTwo n before (deed_of p (Up promise next) ∷ after)
-      two = at_moment before (deed_of p (Up promise next) ∷ after) e
+      c : CutAt ts before (deed_of p (Up promise next))
+      c = cut_at ts before (deed_of p (Up promise next)) after e
 
-      here : IsHistoryFrom n (after_deeds n before nothing_done) (deed_of p (Up promise next) ∷ after)
-      here = (history_front n before (deed_of p (Up promise next) ∷ after) nothing_done (subst (IsHistory n) e h)).1
+      life : CutAt ts before (deed_of p (Up promise next)) → Life
+      life z = (after_turns n z.first nothing_done).life p
 
-      found : FindsItsFacts ((after_deeds n before nothing_done).life p) promise next
-      found = (opens_front n before (deed_of p (Up promise next) ∷ after) nothing_done (subst (OpensWell n) e o)).1.0
+      may : MayTurn n (after_turns n c.first nothing_done) (Does (deed_of p (Up promise next)))
+      may = (turns_front n c.first (Does (deed_of p (Up promise next)) ∷ c.second) nothing_done (subst (AreTurns n) c.is h)).1.0
 
-      down : IsDownIn p ((after_deeds n before nothing_done).life p).marked ((after_deeds n before nothing_done).life p).unmarked (end_of (at_moment before (deed_of p (Up promise next) ∷ after) e).first)
-      down = down_is n p ((after_deeds n before nothing_done).life p) (end_of (at_moment before (deed_of p (Up promise next) ∷ after) e).first) here.0.1 ((at_moment before (deed_of p (Up promise next) ∷ after) e).alike.lives p)
+      found : FindsItsFacts ((after_turns n c.first nothing_done).life p) promise next
+      found = may.1
 
-      left : settled (end_of (at_moment before (deed_of p (Up promise next) ∷ after) e).first) p found.0 ≡ ((after_deeds n before nothing_done).life p).marked ++ take found.0 ((after_deeds n before nothing_done).life p).unmarked
-      left = ap (λ z. z ++ take found.0 ((end_of (at_moment before (deed_of p (Up promise next) ∷ after) e).first).staged p)) down.keeps ∙ ap (λ z. ((after_deeds n before nothing_done).life p).marked ++ take found.0 z) down.stages
+      moment : TookAll n c.first nothing_done empty_world
+      moment = at_moment c.first (Does (deed_of p (Up promise next)) ∷ c.second) c.is
 
-  pub agrees : AgreesWithOneList n deeds
-  agrees =
-      let none : whole.first ++ whole.second ≡ (whole.first ++ whole.second) ++ [] = sym (append-nil (whole.first ++ whole.second)) in
-      record {
-        list = is_sound.a_decided_list_exists.0;
-        decided = decided;
-        submitted = λ c there. submitted_in deeds c (subst (λ cs. Contains cs c) (whole.submitted_all ∙ ap (flat_map submitted_by) (append-nil deeds)) (is_sound.its_commands_were_submitted is_sound.a_decided_list_exists.0 is_sound.a_decided_list_exists.1 c there));
-        restarts = λ before after p promise next e.
-            let f : Finds before after p promise next e = finds before after p promise next e in
-            let two : InTwo n before (deed_of p (Up promise next) ∷ after) = at_moment before (deed_of p (Up promise next) ∷ after) e in
-            let front : (cs : List Command) × IsDecidedList n (end_of two.first).wire cs = sound_list n two.first in
-            let begins : (more : List Command) × (front.0 ≡ decided_prefix (settled (end_of two.first) p f.count) ++ more) = begin_the_list n two.first two.front front.0 front.1 p f.count in
-            let grows = decided_list_grows n (two.first ++ two.second) two.run two.first two.second refl front.0 is_sound.a_decided_list_exists.0 front.1 (decided_in before (deed_of p (Up promise next) ∷ after) e) in (
-              begins.0 ++ drop (length front.0) is_sound.a_decided_list_exists.0,
-              sym (take-append-drop (length front.0) is_sound.a_decided_list_exists.0) ∙ ap (λ z. z ++ drop (length front.0) is_sound.a_decided_list_exists.0) (grows.1 ∙ begins.1 ∙ ap (λ z. z ++ begins.0) (sym f.same))
-                  ∙ append_assoc (decided_from 0 promise) begins.0 (drop (length front.0) is_sound.a_decided_list_exists.0),
-            );
-        nothing_acknowledged_is_lost = λ before after p promise next e q reply there.
-            let f : Finds before after p promise next e = finds before after p promise next e in
-            let two : InTwo n before (deed_of p (Up promise next) ∷ after) = at_moment before (deed_of p (Up promise next) ∷ after) e in
-            subst (λ z. reply_of z q ≡ Some reply) (sym f.same) (know_their_replies n two.first two.front p f.count q reply (told_by_then before (deed_of p (Up promise next) ∷ after) e p q reply there));
-        replies = λ p q reply there. is_sound.acknowledged_replies_are_its_own is_sound.a_decided_list_exists.0 is_sound.a_decided_list_exists.1 p q reply (told_in p q reply there);
-        decisions = λ p q i m k v w here there e f. is_sound.one_command_is_chosen i v w
-            (is_sound.what_decisions_say_is_chosen (whole.first ++ whole.second) [] none m.from i v (says p i m v here e))
-            (is_sound.what_decisions_say_is_chosen (whole.first ++ whole.second) [] none k.from i w (says q i k w there f));
-        real_time = λ before after e p q reply there v new k at.
-            let two : InTwo n before after = at_moment before after e in
-            later_commands_stand_behind n (two.first ++ two.second) two.run two.first two.second refl p q reply
-            (told_by_then before after e p q reply there) is_sound.a_decided_list_exists.0 (decided_in before after e) v
-            (λ was. let s = submitted_in before v (subst (λ cs. Contains cs v) two.submitted was) in new s.0 s.1)
-            k at;
-      }
+      left : IsShifted n p (settled moment.world p found.0) (((after_turns n c.first nothing_done).life p).marked ++ take found.0 ((after_turns n c.first nothing_done).life p).unmarked)
+      left =
+          let D = down_is n p ((after_turns n c.first nothing_done).life p) moment.world may.0.1 (moment.alike.lives p) in
+          left_shift n p ((after_turns n c.first nothing_done).life p) moment.world found.0 D.0 D.1
+
+  -- what was decided by a moment begins the list
+  left_begins : (first second : List Turn) (e : ts ≡ first ++ second) (p count : ℕ) → Begins (decided_prefix (settled (at_moment first second e).world p count)) (decided_list n (after_turns n ts nothing_done).wire).0
+  left_begins first second e p count =
+      let m : TookAll n first nothing_done empty_world = at_moment first second e in
+      chosen_begins n (after_turns n ts nothing_done) whole.world whole.alike (decided_prefix (settled m.world p count)) (decided_list n (after_turns n ts nothing_done).wire).0
+      (λ i u x. chosen_later first second e i u (left_chosen n (after_turns n first nothing_done) m.world m.alike p count i u x)) decided
+
+  -- and so does the decided list of a moment
+  list_begins : (first second : List Turn) → ts ≡ first ++ second → Begins (decided_list n (after_turns n first nothing_done).wire).0 (decided_list n (after_turns n ts nothing_done).wire).0
+  list_begins first second e = chosen_begins n (after_turns n ts nothing_done) whole.world whole.alike (decided_list n (after_turns n first nothing_done).wire).0 (decided_list n (after_turns n ts nothing_done).wire).0
+      (λ i u x. chosen_later first second e i u ((decided_list n (after_turns n first nothing_done).wire).1.chosen i u x)) decided
+
+  -- a decision that was sent is of a chosen command
+  sent_chosen : (p i : ℕ) (m : Message) (u : Command) → Contains (deeds_of ts) (deed_of p (Sent m)) → m.body ≡ Decision i u → IsChosen n (after_turns n ts nothing_done).wire i u
+  sent_chosen p i m u there e = decision_chosen n (after_turns n ts nothing_done) whole.world whole.alike m i u
+      (subst (λ ms. Contains ms m) (sym wire_is) (given_by sent_by (deeds_of ts) (deed_of p (Sent m)) m refl there)) e
+
+  in_real_time : (before after : List Deed) → deeds_of ts ≡ before ++ after → (p : ℕ) (q : RequestNo) (reply : Reply) → Contains before (deed_of p (Acked q reply))
+      → (u : Command) → ((at : ℕ) → Contains before (deed_of at (Told (input.Submit u))) → ⊥)
+      → (k : ℕ) → slice_get (decided_list n (after_turns n ts nothing_done).wire).0 k ≡ Some u → reply_of (take k (decided_list n (after_turns n ts nothing_done).wire).0) q ≡ Some reply
+  in_real_time before after e p q reply there u new k at =
+      let c : Cut ts before after = cut ts before after e in
+      let m : TookAll n c.first nothing_done empty_world = at_moment c.first c.second c.is in
+      let v : Lives = after_turns n c.first nothing_done in
+      let front = decided_list n v.wire in
+      let b : Begins front.0 (decided_list n (after_turns n ts nothing_done).wire).0 = list_begins c.first c.second c.is in
+      stands_behind front.0 (decided_list n (after_turns n ts nothing_done).wire).0 u k q reply
+      (subst (λ z. take (length front.0) z ≡ front.0) b.is (take_at front.0 b.rest (length front.0) refl))
+      (list_replies n v m.world m.alike front.0 front.1 p q reply (told_at c.first c.second c.is p q reply (subst (λ ds. Contains ds (deed_of p (Acked q reply))) (sym c.front) there)))
+      (λ x.
+      let s = submitted_in before u (subst (λ ds. Contains (flat_map submitted_by ds) u) c.front (subst (λ cs. Contains cs u) m.submitted (list_submitted n v m.world m.alike front.0 front.1 u x))) in
+      new s.0 s.1)
+      at
+
+  pub turns_agree : DoTurnsAgree n ts
+  turns_agree = record {
+    list = (decided_list n (after_turns n ts nothing_done).wire).0;
+    decided = subst (λ ms. IsDecidedList n ms (decided_list n (after_turns n ts nothing_done).wire).0) wire_is decided;
+    submitted = λ c there. submitted_in (deeds_of ts) c (subst (λ cs. Contains cs c) whole.submitted (list_submitted n (after_turns n ts nothing_done) whole.world whole.alike (decided_list n (after_turns n ts nothing_done).wire).0 decided c there));
+    restarts = λ before after p promise next e.
+        let f : Finds before p promise next = finds before after p promise next e in
+        let b = left_begins f.at.first (Does (deed_of p (Up promise next)) ∷ f.at.second) f.at.is p f.count in
+        (b.rest, sym b.is ∙ ap (λ z. z ++ b.rest) (sym f.same));
+    nothing_acknowledged_is_lost = λ before after p promise next e q reply there.
+        let f : Finds before p promise next = finds before after p promise next e in
+        let m : TookAll n f.at.first nothing_done empty_world = at_moment f.at.first (Does (deed_of p (Up promise next)) ∷ f.at.second) f.at.is in
+        subst (λ z. reply_of z q ≡ Some reply) (sym f.same)
+        (left_replies n (after_turns n f.at.first nothing_done) m.world m.alike p f.count q reply
+        (told_at f.at.first (Does (deed_of p (Up promise next)) ∷ f.at.second) f.at.is p q reply (subst (λ ds. Contains ds (deed_of p (Acked q reply))) (sym f.at.front) there)));
+    replies = λ p q reply there. list_replies n (after_turns n ts nothing_done) whole.world whole.alike (decided_list n (after_turns n ts nothing_done).wire).0 decided p q reply
+        (subst (λ xs. Contains xs (Acknowledged p q reply)) (sym whole.told) (given_by told_by (deeds_of ts) (deed_of p (Acked q reply)) (Acknowledged p q reply) refl there));
+    decisions = λ p q i m k v w here there e f. one_here n (after_turns n ts nothing_done) whole.world whole.alike i v w (sent_chosen p i m v here e) (sent_chosen q i k w there f);
+    real_time = in_real_time;
+  }
+
+-- ---- histories in which no disk is made anew
+
+-- deeds as turns
+abbrev pub does_all : List Deed → List Turn
+does_all [] = []
+does_all (d ∷ ds) = Does d ∷ does_all ds
+
+pub does_deeds : (ds : List Deed) → deeds_of (does_all ds) ≡ ds
+does_deeds [] = refl
+does_deeds (d ∷ ds) = ap (λ z. d ∷ z) (does_deeds ds)
+
+pub does_turns : (n : ℕ) (ds : List Deed) (v : Lives) → IsHistoryFrom n v ds → OpensWellFrom n v ds → AreTurnsFrom n v (does_all ds)
+does_turns n [] v h o = tt
+does_turns n (d ∷ ds) v h o = ((h.0, o.0), does_turns n ds (after_deed n d v) h.1 o.1)
+
+pub agrees : (n : ℕ) (deeds : List Deed) → IsHistory n deeds → OpensWell n deeds → AgreesWithOneList n deeds
+agrees n deeds h o = subst (AgreesWithOneList n) (does_deeds deeds) (turns_agree n (does_all deeds) (does_turns n deeds nothing_done h o))

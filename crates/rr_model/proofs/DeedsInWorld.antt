@@ -1,16 +1,19 @@
--- Nodes as a history has them and the world stay alike over each deed, also over stops and starts.
-use Rattle.std.proofs.Common.{◌≡◌, inl, inr, ℕ, ◌<◌, Bool, true, false, ◌==◌, if◌then◌else◌, List, [], ◌∷◌, ◌++◌, length, map, take, drop, Contains, Option, None, Some, refl, sym, ◌∙◌, ap, subst, arith, append-nil, append_assoc, take-append-drop, eqb-true}
+-- Nodes as a history has them and the world stay alike over each deed, also over stops and starts. The world may keep other
+-- facts of a node, by which it stands alike.
+use Rattle.std.proofs.Common.{◌≡◌, ◌⊎◌, inl, inr, ℕ, ◌<◌, Bool, true, false, ◌==◌, if◌then◌else◌, List, [], ◌∷◌, ◌++◌, length, map, take, drop, Contains, Option, None, Some, refl, sym, ◌∙◌, ap, subst, arith, append-nil, append_assoc, take-append-drop, eqb-true}
 use Rattle.std.specs.Prelude.{IsSome}
 use Rattle.std.specs.Option.{option_map, option_map_or}
 use Rattle.std.proofs.lemmas.Bool.{eqb-false}
 use Rattle.std.proofs.lemmas.List.{take_at}
-use Rattle.std.proofs.lemmas.List.Elements.{Contains-append_cases, Contains-push_cases}
+use Rattle.std.proofs.lemmas.List.Elements.{Contains-append_cases, Contains-append_left, Contains-append_right, Contains-push_cases}
 use Rattle.rr_types.specs.declared.command.Command.{Command}
 use Rattle.rr_types.specs.declared.command.RequestNo.{RequestNo}
 use Rattle.rr_types.specs.declared.command.Reply.{Reply}
 use Rattle.rr_types.specs.declared.fact.Fact.{Fact}
 use Rattle.rr_types.specs.declared.input.Input.{Input}
 use Rattle.rr_types.specs.declared.input.Input.TheVariants as node
+use Rattle.rr_types.specs.declared.message.Body.{Body}
+use Rattle.rr_types.specs.declared.message.Body.TheVariants.{Decision}
 use Rattle.rr_types.specs.declared.message.Message.{Message}
 use Rattle.rr_types.specs.declared.promise.Entry.{Entry}
 use Rattle.rr_types.specs.Promises.{all_fit, decided_from}
@@ -30,7 +33,7 @@ use Rattle.rr_model.specs.NodeState.{NodeState}
 use Rattle.rr_model.specs.NodeStep.{next_leaving, next_acknowledged, marked_running, started}
 use Rattle.rr_model.specs.NodeWorld.{steps_of_event, step_of_input, told_reply, MayCome}
 use Rattle.rr_model.specs.World as world
-use Rattle.rr_model.specs.World.{World, Step, Stage, Settle, GoDown, Restart, Sent, Acknowledged, Reported, nothing_heard, after_step, IsRunFrom}
+use Rattle.rr_model.specs.World.{World, Step, Stage, Settle, GoDown, Restart, Sent, Acknowledged, Reported, nothing_heard, with_at, after_step, IsRunFrom}
 use Rattle.rr_model.proofs.Frames.{steps_alone, stays_in_world, stays_down, event_at, event_says}
 use Rattle.rr_model.proofs.Invariants.{Invariant, all_said, settled_history, after_all}
 use Rattle.rr_model.proofs.Laws.{after_steps-append}
@@ -38,9 +41,10 @@ use Rattle.rr_model.proofs.NodeFollows.{at_same}
 use Rattle.rr_model.proofs.NodeInWorld.{reached_in_world, reached_marks, settles_in_world, goes_down_in_world}
 use Rattle.rr_model.proofs.NodePrefixes.{same_prefix}
 use Rattle.rr_model.proofs.NodeReached.{reached_still}
-use Rattle.rr_model.proofs.NodeRestarts.{restarts_in_world, opened_prefix}
+use Rattle.rr_model.proofs.NodeRestarts.{restarts_in_world}
 use Rattle.rr_model.proofs.NodeRounds.{reached_names_rounds, reached_may_leave}
 use Rattle.rr_model.proofs.Promised.{history_fits}
+use Rattle.rr_model.proofs.Shifted.{IsShifted, shifted_on, shifted_fits, shifted_prefix, IsShadow, steps_over, shade_of, shade_is_shadow, in_shade}
 
 -- ---- what deeds say
 
@@ -64,26 +68,34 @@ submitted_by d = submitted_of d.what
 
 -- ---- one node
 
--- node p of n was reached in this state, and the world has it so
-pub record IsThere (n p : ℕ) (s : NodeState) (w : World) : Type 0 where
+-- node p of n, which has marked these facts, was reached in this state. The world has it so, but that it may keep other
+-- facts, by which the node stands alike
+pub record IsThere (n p : ℕ) (marked : List Fact) (s : NodeState) (w : World) : Type 0 where
   pub facts : List Fact
   pub heard : Heard
   pub reached : IsReached n p facts heard s
-  pub in_world : IsInWorld false n p facts heard s w
+  pub in_world : IsInWorld false n p facts heard s (shade_of p marked w)
+  pub shift : IsShifted n p (w.kept p) marked
 
 -- the world has node p of n as the history
 abbrev pub IsLifeIn : ℕ → ℕ → Life → World → Option NodeState → Type 0
-IsLifeIn n p l w None = IsDownIn p l.marked l.unmarked w
-IsLifeIn n p l w (Some s) = IsThere n p s w × (w.kept p ≡ l.marked)
+IsLifeIn n p l w None = IsDownIn p (w.kept p) l.unmarked w × IsShifted n p (w.kept p) l.marked
+IsLifeIn n p l w (Some s) = IsThere n p l.marked s w
 
 -- a message is from one of the n nodes, and names rounds above 0
 abbrev pub IsProper : ℕ → Message → Type 0
 IsProper n m = (m.from < n) × NamesRounds m.body
 
--- the world has all nodes as the history, and both have the same messages, which are proper
+-- the message says what an instance has decided
+abbrev pub SaysDecision : Body → Type 0
+SaysDecision (Decision i v) = Unit {0}
+SaysDecision body = ⊥
+
+-- the world has all nodes as the history, and its messages, which are proper. It may have more decisions on the wire
 pub record IsAlike (n : ℕ) (v : Lives) (w : World) : Type 0 where
   pub lives : (p : ℕ) → IsLifeIn n p (v.life p) w (v.life p).state
-  pub wire : w.wire ≡ v.wire
+  pub wire : (m : Message) → Contains v.wire m → Contains w.wire m
+  pub extra : (m : Message) → Contains w.wire m → Contains v.wire m ⊎ SaysDecision m.body
   pub proper : (m : Message) → Contains v.wire m → IsProper n m
   pub sound : Invariant n w
 
@@ -156,18 +168,39 @@ input_submits p input w = sym (append-nil w.submitted)
 pub none_proper : (n : ℕ) (m : Message) → Contains [] m → IsProper n m
 none_proper n m c = absurd (let l : c.0 < 0 = c.1 in omega arith)
 
+-- what may come in the world may come in its shade
+may_in_shade : (p : ℕ) (marked : List Fact) (w : World) (s : NodeState) (e : StateEvent) → MayCome w p s e → MayCome (shade_of p marked w) p s e
+may_in_shade p marked w s (Told (node.Hear m)) h = h
+may_in_shade p marked w s (Told input) h = tt
+may_in_shade p marked w s Grouped h = tt
+may_in_shade p marked w s PutBack h = tt
+may_in_shade p marked w s Marked h = tt
+may_in_shade p marked w s Left h = h
+may_in_shade p marked w s Answered h = tt
+
 -- an event that leaves the running group alone
-module _ (n p : ℕ) (l : Life) (w : World) (s : NodeState) (up : l.state ≡ Some s) (t : IsThere n p s w) (kept : w.kept p ≡ l.marked) where
+module _ (n p : ℕ) (l : Life) (w : World) (s : NodeState) (up : l.state ≡ Some s) (t : IsThere n p l.marked s w) where
+  -- steps of the shade are steps of the world
+  over : (steps : List Step) → AreStepsAt p steps → IsRunFrom n (shade_of p l.marked w) steps → IsRunFrom n w steps × IsShadow n p (after_steps (shade_of p l.marked w) steps) (after_steps w steps)
+  over steps own r = steps_over n p steps (shade_of p l.marked w) w own (shade_is_shadow n p l.marked w t.shift) r
+
   lives_on : (e : StateEvent) → IsProperEvent n e → LeavesTheGroup e → MayCome w p s e
       → IsRunFrom n w (steps_of_event p s e) × IsLifeIn n p (lived e l) (after_steps w (steps_of_event p s e)) (option_map (λ x. after_event x e) l.state)
   lives_on e proper alone may =
-      let r = reached_in_world n p t.facts t.heard s t.reached false e proper alone w t.in_world may in
-      let there : IsThere n p (after_event s e) (after_steps w (steps_of_event p s e)) =
-      record { facts = t.facts ++ facts_of_event s e; heard = heard_after p t.heard e; reached = Happened t.facts t.heard s e t.reached proper; in_world = r.1 } in (
-        r.0,
-        subst (λ (o : Option NodeState). IsLifeIn n p (lived e l) (after_steps w (steps_of_event p s e)) (option_map (λ x. after_event x e) o)) (sym up)
-            (there, keeps_alone p s e w alone ∙ kept),
-      )
+      let steps : List Step = steps_of_event p s e in
+      let v : World = shade_of p l.marked w in
+      let r = reached_in_world n p t.facts t.heard s t.reached false e proper alone v t.in_world (may_in_shade p l.marked w s e may) in
+      let o = over steps (event_at p s e) r.0 in
+      let kept : (after_steps v steps).kept p ≡ l.marked = keeps_alone p s e v alone ∙ at_same w.kept p l.marked in
+      let there : IsThere n p l.marked (after_event s e) (after_steps w steps) =
+      record {
+        facts = t.facts ++ facts_of_event s e;
+        heard = heard_after p t.heard e;
+        reached = Happened t.facts t.heard s e t.reached proper;
+        in_world = in_shade n p (t.facts ++ facts_of_event s e) (heard_after p t.heard e) (after_event s e) l.marked (after_steps v steps) (after_steps w steps) o.1 kept r.1;
+        shift = subst (IsShifted n p ((after_steps w steps).kept p)) kept o.1.shift;
+      } in
+      (o.0, subst (λ (o : Option NodeState). IsLifeIn n p (lived e l) (after_steps w (steps_of_event p s e)) (option_map (λ x. after_event x e) o)) (sym up) there)
 
   told_goes : (input : Input Message) → IsProperEvent n (Told input) → MayCome w p s (Told input) → Goes n p (deed.Told input) l w
   told_goes input proper may =
@@ -231,23 +264,31 @@ module _ (n p : ℕ) (l : Life) (w : World) (s : NodeState) (up : l.state ≡ So
   -- it marks its running group
   marked_goes : (group : List Fact) → s.running ≡ Some group → Goes n p deed.Marked l w
   marked_goes group runs =
-      let r = settles_in_world n p t.facts t.heard s w group runs t.in_world in
+      let steps : List Step = Settle p (length group) ∷ [] in
+      let v : World = shade_of p l.marked w in
+      let r = settles_in_world n p t.facts t.heard s v group runs t.in_world in
+      let o = over steps (refl, tt) r.0 in
       let is_group : group_of s ≡ group = ap (λ (o : Option (List Fact)). option_map_or (λ g. g) o []) runs in
-      let behind : IsInWorld false n p t.facts t.heard (marked_running s) (after_steps w (Settle p (length group) ∷ [])) =
-      reached_marks n p t.facts t.heard s t.reached (after_steps w (Settle p (length group) ∷ [])) r.1 in
-      let there : IsThere n p (after_event s Marked) (after_steps w (Settle p (length group) ∷ [])) =
-      record { facts = t.facts; heard = t.heard; reached = reached_still n p t.facts t.heard s Marked t.reached tt refl; in_world = behind } in
+      let behind : IsInWorld false n p t.facts t.heard (marked_running s) (after_steps v (Settle p (length group) ∷ [])) =
+      reached_marks n p t.facts t.heard s t.reached (after_steps v (Settle p (length group) ∷ [])) r.1 in
       let staged : w.staged p ≡ group ++ s.staged = t.in_world.staged ∙ ap (λ z. z ++ s.staged) is_group in
-      let more : (after_steps w (Settle p (length group) ∷ [])).kept p ≡ l.marked ++ group =
-      at_same w.kept p (w.kept p ++ take (length group) (w.staged p)) ∙ ap (λ z. z ++ take (length group) (w.staged p)) kept
-      ∙ ap (λ z. l.marked ++ take (length group) z) staged ∙ ap (λ z. l.marked ++ z) (take_at group s.staged (length group) refl) in
       let lists : l.marked ++ group ≡ l.marked ++ option_map_or group_of l.state [] = ap (λ z. l.marked ++ z) (sym is_group ∙ ap (λ (o : Option NodeState). option_map_or group_of o []) (sym up)) in
+      let more : (after_steps v (Settle p (length group) ∷ [])).kept p ≡ l.marked ++ option_map_or group_of l.state [] =
+      at_same v.kept p (v.kept p ++ take (length group) (w.staged p)) ∙ ap (λ z. z ++ take (length group) (w.staged p)) (at_same w.kept p l.marked)
+      ∙ ap (λ z. l.marked ++ take (length group) z) staged ∙ ap (λ z. l.marked ++ z) (take_at group s.staged (length group) refl) ∙ lists in
+      let there : IsThere n p (l.marked ++ option_map_or group_of l.state []) (after_event s Marked) (after_steps w (Settle p (length group) ∷ [])) =
+      record {
+        facts = t.facts;
+        heard = t.heard;
+        reached = reached_still n p t.facts t.heard s Marked t.reached tt refl;
+        in_world = in_shade n p t.facts t.heard (marked_running s) (l.marked ++ option_map_or group_of l.state []) (after_steps v steps) (after_steps w steps) o.1 more behind;
+        shift = subst (IsShifted n p ((after_steps w steps).kept p)) more o.1.shift;
+      } in
       record {
         steps = Settle p (length group) ∷ [];
-        run = r.0;
+        run = o.0;
         own = (refl, tt);
-        life = subst (λ (o : Option NodeState). IsLifeIn n p (record (lived Marked l) { marked = l.marked ++ option_map_or group_of l.state [] }) (after_steps w (Settle p (length group) ∷ [])) (option_map (λ x. after_event x Marked) o)) (sym up)
-            (there, more ∙ lists);
+        life = subst (λ (o : Option NodeState). IsLifeIn n p (record (lived Marked l) { marked = l.marked ++ option_map_or group_of l.state [] }) (after_steps w (Settle p (length group) ∷ [])) (option_map (λ x. after_event x Marked) o)) (sym up) there;
         sent = sym (append-nil w.wire);
         told = sym (append-nil w.trace);
         submitted = sym (append-nil w.submitted);
@@ -257,50 +298,60 @@ module _ (n p : ℕ) (l : Life) (w : World) (s : NodeState) (up : l.state ≡ So
   -- it goes down
   down_goes : Goes n p deed.Down l w
   down_goes =
-      let r = goes_down_in_world false n p t.facts t.heard s w t.in_world in
+      let v : World = shade_of p l.marked w in
+      let r = goes_down_in_world false n p t.facts t.heard s v t.in_world in
+      let o = over (GoDown p ∷ []) (refl, tt) r.0 in
       let left : w.staged p ≡ option_map_or unmarked_of l.state l.unmarked = t.in_world.staged ∙ ap (λ (o : Option NodeState). option_map_or unmarked_of o l.unmarked) (sym up) in
       record {
         steps = GoDown p ∷ [];
-        run = r.0;
+        run = o.0;
         own = (refl, tt);
-        life = record { down = r.1.down; keeps = r.1.keeps ∙ kept; stages = r.1.stages ∙ left; heard = r.1.heard };
+        life = (record { down = at_same w.is_up p false; keeps = refl; stages = left; heard = at_same w.heard p nothing_heard }, t.shift);
         sent = sym (append-nil w.wire);
         told = sym (append-nil w.trace);
         submitted = sym (append-nil w.submitted);
         proper = none_proper n;
       }
 
+-- what a crash leaves in the world, and what it leaves of the node's own facts
+pub left_shift : (n p : ℕ) (l : Life) (w : World) (count : ℕ) → IsDownIn p (w.kept p) l.unmarked w → IsShifted n p (w.kept p) l.marked → IsShifted n p (settled w p count) (l.marked ++ take count l.unmarked)
+left_shift n p l w count D S = subst (λ z. IsShifted n p (w.kept p ++ take count z) (l.marked ++ take count l.unmarked)) (sym D.stages) (shifted_on n p (w.kept p) l.marked (take count l.unmarked) S)
+
 -- it comes up over facts that its disk may have
-up_goes : (n p : ℕ) (l : Life) (w : World) (promise : List Entry) (next : ℕ) → Invariant n w → p < n → IsDownIn p l.marked l.unmarked w → FindsItsFacts l promise next → Goes n p (deed.Up promise next) l w
-up_goes n p l w promise next I less D found = record {
+up_goes : (n p : ℕ) (l : Life) (w : World) (promise : List Entry) (next : ℕ) → Invariant n w → p < n → IsDownIn p (w.kept p) l.unmarked w → IsShifted n p (w.kept p) l.marked → FindsItsFacts l promise next → Goes n p (deed.Up promise next) l w
+up_goes n p l w promise next I less D S found = record {
   steps = Restart p found.0 ∷ [];
-  run = r.0;
+  run = o.0;
   own = (refl, tt);
-  life = (subst (λ (x : NodeState). IsThere n p x (after_step w (Restart p found.0))) same there, keeps);
+  life = subst (λ (x : NodeState). IsThere n p (take next (l.marked ++ l.unmarked)) x (after_step w (Restart p found.0))) same there;
   sent = sym (append-nil w.wire);
-  told = r.2 ∙ ap (λ z. w.trace ++ tell z ∷ []) prefix;
+  told = ap (λ z. w.trace ++ tell z ∷ []) prefix;
   submitted = sym (append-nil w.submitted);
   proper = none_proper n;
 }
   where
+    v : World
+    v = shade_of p l.marked w
+
     facts : List Fact
     facts = l.marked ++ take found.0 l.unmarked
 
-    left : settled w p found.0 ≡ l.marked ++ take found.0 l.unmarked
-    left = ap (λ z. z ++ take found.0 (w.staged p)) D.keeps ∙ ap (λ z. l.marked ++ take found.0 z) D.stages
+    E : IsDownIn p l.marked l.unmarked (shade_of p l.marked w)
+    E = record { down = D.down; keeps = at_same w.kept p l.marked; stages = D.stages; heard = D.heard }
+
+    -- what the world keeps of the restart, and what the node finds
+    found_shift : IsShifted n p (settled w p found.0) (l.marked ++ take found.0 l.unmarked)
+    found_shift = left_shift n p l w found.0 D S
 
     fit : all_fit n p [] (l.marked ++ take found.0 l.unmarked) ≡ true
-    fit = subst (λ z. all_fit n p [] z ≡ true) left (history_fits n p (all_said w) (settled w p found.0) (settled_history n w p found.0 I))
+    fit = shifted_fits n p (settled w p found.0) (l.marked ++ take found.0 l.unmarked) found_shift (history_fits n p (all_said w) (settled w p found.0) (settled_history n w p found.0 I))
 
-    r : IsRunFrom n w (Restart p found.0 ∷ []) × IsInWorld false n p (l.marked ++ take found.0 l.unmarked) nothing_heard (opened_over n p (l.marked ++ take found.0 l.unmarked)) (after_step w (Restart p found.0))
-        × ((after_step w (Restart p found.0)).trace ≡ w.trace ++ Reported p (length (state.decided_prefix (opened_over n p (l.marked ++ take found.0 l.unmarked)))) (registry_of (state.decided_prefix (opened_over n p (l.marked ++ take found.0 l.unmarked)))) ∷ [])
-    r = restarts_in_world n p l.marked l.unmarked found.0 w less D found.1 fit
+    r : IsRunFrom n (shade_of p l.marked w) (Restart p found.0 ∷ []) × IsInWorld false n p (l.marked ++ take found.0 l.unmarked) nothing_heard (opened_over n p (l.marked ++ take found.0 l.unmarked)) (after_step (shade_of p l.marked w) (Restart p found.0))
+        × ((after_step (shade_of p l.marked w) (Restart p found.0)).trace ≡ w.trace ++ Reported p (length (state.decided_prefix (opened_over n p (l.marked ++ take found.0 l.unmarked)))) (registry_of (state.decided_prefix (opened_over n p (l.marked ++ take found.0 l.unmarked)))) ∷ [])
+    r = restarts_in_world n p l.marked l.unmarked found.0 (shade_of p l.marked w) less E found.1 fit
 
-    there : IsThere n p (opened_over n p (l.marked ++ take found.0 l.unmarked)) (after_step w (Restart p found.0))
-    there = record { facts = l.marked ++ take found.0 l.unmarked; heard = nothing_heard; reached = reached.Opened (l.marked ++ take found.0 l.unmarked) fit; in_world = r.1 }
-
-    same : opened_over n p (l.marked ++ take found.0 l.unmarked) ≡ started n p promise next
-    same = ap (λ z. started n p z (length (l.marked ++ take found.0 l.unmarked))) (sym found.3) ∙ ap (λ z. started n p promise z) (sym found.2)
+    o : IsRunFrom n w (Restart p found.0 ∷ []) × IsShadow n p (after_step (shade_of p l.marked w) (Restart p found.0)) (after_step w (Restart p found.0))
+    o = steps_over n p (Restart p found.0 ∷ []) (shade_of p l.marked w) w (refl, tt) (shade_is_shadow n p l.marked w S) r.0
 
     cut : take next (l.marked ++ l.unmarked) ≡ l.marked ++ take found.0 l.unmarked
     cut =
@@ -308,59 +359,88 @@ up_goes n p l w promise next I less D found = record {
         ∙ ap (λ z. take (length (l.marked ++ take found.0 l.unmarked)) z) (ap (λ z. l.marked ++ z) (sym (take-append-drop found.0 l.unmarked)) ∙ sym (append_assoc l.marked (take found.0 l.unmarked) (drop found.0 l.unmarked)))
         ∙ take_at (l.marked ++ take found.0 l.unmarked) (drop found.0 l.unmarked) (length (l.marked ++ take found.0 l.unmarked)) refl
 
-    keeps : (after_step w (Restart p found.0)).kept p ≡ take next (l.marked ++ l.unmarked)
-    keeps = at_same w.kept p (settled w p found.0) ∙ left ∙ sym cut
+    keeps : (after_step (shade_of p l.marked w) (Restart p found.0)).kept p ≡ take next (l.marked ++ l.unmarked)
+    keeps = at_same (with_at w.kept p l.marked) p (settled (shade_of p l.marked w) p found.0) ∙ ap (λ z. z ++ take found.0 (w.staged p)) (at_same w.kept p l.marked) ∙ ap (λ z. l.marked ++ take found.0 z) D.stages ∙ sym cut
+
+    there : IsThere n p (take next (l.marked ++ l.unmarked)) (opened_over n p (l.marked ++ take found.0 l.unmarked)) (after_step w (Restart p found.0))
+    there = record {
+      facts = l.marked ++ take found.0 l.unmarked;
+      heard = nothing_heard;
+      reached = reached.Opened (l.marked ++ take found.0 l.unmarked) fit;
+      in_world = in_shade n p (l.marked ++ take found.0 l.unmarked) nothing_heard (opened_over n p (l.marked ++ take found.0 l.unmarked)) (take next (l.marked ++ l.unmarked)) (after_step (shade_of p l.marked w) (Restart p found.0)) (after_step w (Restart p found.0)) o.1 keeps r.1;
+      shift = subst (IsShifted n p ((after_step w (Restart p found.0)).kept p)) keeps o.1.shift;
+    }
+
+    same : opened_over n p (l.marked ++ take found.0 l.unmarked) ≡ started n p promise next
+    same = ap (λ z. started n p z (length (l.marked ++ take found.0 l.unmarked))) (sym found.3) ∙ ap (λ z. started n p promise z) (sym found.2)
 
     tell : List Command → world.Told
     tell z = Reported p (length z) (registry_of z)
 
-    prefix : state.decided_prefix (opened_over n p (l.marked ++ take found.0 l.unmarked)) ≡ decided_from 0 promise
-    prefix = opened_prefix n p (l.marked ++ take found.0 l.unmarked) ∙ sym (same_prefix (l.marked ++ take found.0 l.unmarked)) ∙ ap (decided_from 0) (sym found.3)
+    prefix : world.decided_prefix (settled w p found.0) ≡ decided_from 0 promise
+    prefix = shifted_prefix n p (settled w p found.0) (l.marked ++ take found.0 l.unmarked) found_shift ∙ sym (same_prefix (l.marked ++ take found.0 l.unmarked)) ∙ ap (decided_from 0) (sym found.3)
 
 -- a node that is up
-up_is : (n p : ℕ) (l : Life) (w : World) (s : NodeState) → l.state ≡ Some s → IsLifeIn n p l w l.state → IsThere n p s w × (w.kept p ≡ l.marked)
+pub up_is : (n p : ℕ) (l : Life) (w : World) (s : NodeState) → l.state ≡ Some s → IsLifeIn n p l w l.state → IsThere n p l.marked s w
 up_is n p l w s e h = subst (λ (o : Option NodeState). IsLifeIn n p l w o) e h
 
-pub down_is : (n p : ℕ) (l : Life) (w : World) → l.state ≡ None → IsLifeIn n p l w l.state → IsDownIn p l.marked l.unmarked w
+pub down_is : (n p : ℕ) (l : Life) (w : World) → l.state ≡ None → IsLifeIn n p l w l.state → IsDownIn p (w.kept p) l.unmarked w × IsShifted n p (w.kept p) l.marked
 down_is n p l w e h = subst (λ (o : Option NodeState). IsLifeIn n p l w o) e h
 
 some_group : {A : Type 0} (o : Option A) → IsSome o → (x : A) × (o ≡ Some x)
 some_group None h = absurd (let no : false ≡ true = h in cc)
 some_group (Some x) h = (x, refl)
 
-proper_input : (n p : ℕ) (v : Lives) (input : Input Message) → ((m : Message) → Contains v.wire m → IsProper n m) → WasSent v.wire p input → IsProperEvent n (Told input)
+pub proper_input : (n p : ℕ) (v : Lives) (input : Input Message) → ((m : Message) → Contains v.wire m → IsProper n m) → WasSent v.wire p input → IsProperEvent n (Told input)
 proper_input n p v (node.Hear m) all h = all m h.0
 proper_input n p v input all h = tt
 
-may_come : (p : ℕ) (v : Lives) (w : World) (s : NodeState) (input : Input Message) → w.wire ≡ v.wire → WasSent v.wire p input → MayCome w p s (Told input)
-may_come p v w s (node.Hear m) same h = λ own. subst (λ ms. Contains ms m) (sym same) h.0
+may_come : (p : ℕ) (v : Lives) (w : World) (s : NodeState) (input : Input Message) → ((m : Message) → Contains v.wire m → Contains w.wire m) → WasSent v.wire p input → MayCome w p s (Told input)
+may_come p v w s (node.Hear m) same h = λ own. same m h.0
 may_come p v w s input same h = tt
 
 -- what a node does next takes it along
 goes : (n p : ℕ) (v : Lives) (w : World) (what : What) → IsAlike n v w → IsNextOf n v.wire p (v.life p) what → OpensWellAt (v.life p) what → Goes n p what (v.life p) w
 goes n p v w (deed.Told input) a next well =
     let t = up_is n p (v.life p) w next.0 next.1 (a.lives p) in
-    told_goes n p (v.life p) w next.0 next.1 t.0 t.1 input (proper_input n p v input a.proper (next.2).0) (may_come p v w next.0 input a.wire (next.2).0)
+    told_goes n p (v.life p) w next.0 next.1 t input (proper_input n p v input a.proper (next.2).0) (may_come p v w next.0 input a.wire (next.2).0)
 goes n p v w deed.Took a next well =
     let t = up_is n p (v.life p) w next.0 next.1 (a.lives p) in
-    took_goes n p (v.life p) w next.0 next.1 t.0 t.1
+    took_goes n p (v.life p) w next.0 next.1 t
 goes n p v w deed.Marked a next well =
     let t = up_is n p (v.life p) w next.0 next.1 (a.lives p) in
     let group = some_group next.0.running next.2 in
-    marked_goes n p (v.life p) w next.0 next.1 t.0 t.1 group.0 group.1
+    marked_goes n p (v.life p) w next.0 next.1 t group.0 group.1
 goes n p v w (deed.Sent m) a next well =
     let t = up_is n p (v.life p) w next.0 next.1 (a.lives p) in
-    sent_goes n p (v.life p) w next.0 next.1 t.0 t.1 m next.2
+    sent_goes n p (v.life p) w next.0 next.1 t m next.2
 goes n p v w (deed.Acked q reply) a next well =
     let t = up_is n p (v.life p) w next.0 next.1 (a.lives p) in
-    acked_goes n p (v.life p) w next.0 next.1 t.0 t.1 q reply (next.2).0 (next.2).1
+    acked_goes n p (v.life p) w next.0 next.1 t q reply (next.2).0 (next.2).1
 goes n p v w deed.Down a next well =
     let t = up_is n p (v.life p) w next.0 next.1 (a.lives p) in
-    down_goes n p (v.life p) w next.0 next.1 t.0 t.1
+    down_goes n p (v.life p) w next.0 next.1 t
 goes n p v w (deed.Up promise next_number) a next well =
-    up_goes n p (v.life p) w promise next_number a.sound next.0 (down_is n p (v.life p) w next.1 (a.lives p)) well
+    let d = down_is n p (v.life p) w next.1 (a.lives p) in
+    up_goes n p (v.life p) w promise next_number a.sound next.0 d.0 d.1 well
 
 -- ---- all nodes
+
+-- a node that is left alone
+pub life_alone : (n q : ℕ) (l : Life) (w u : World) → LeavesAlone q w u → (o : Option NodeState) → IsLifeIn n q l w o → IsLifeIn n q l u o
+life_alone n q l w u a None h = (
+  subst (λ k. IsDownIn q k l.unmarked u) (sym a.kept) (stays_down q (w.kept q) l.unmarked w u a h.0),
+  subst (λ k. IsShifted n q k l.marked) (sym a.kept) h.1,
+)
+life_alone n q l w u a (Some s) t = record {
+  facts = t.facts;
+  heard = t.heard;
+  reached = t.reached;
+  in_world = stays_in_world false n q t.facts t.heard s (shade_of q l.marked w) (shade_of q l.marked u)
+      (record { up = a.up; kept = at_same u.kept q l.marked ∙ sym (at_same w.kept q l.marked); staged = a.staged; heard = a.heard; submitted = a.submitted; wire = a.wire })
+      t.in_world;
+  shift = subst (λ k. IsShifted n q k l.marked) (sym a.kept) t.shift;
+}
 
 -- a deed took the world along
 pub record Took (n : ℕ) (v : Lives) (d : Deed) (w : World) : Type 0 where
@@ -377,7 +457,17 @@ takes n v d w a next well = record {
   run = g.run;
   alike = record {
     lives = λ q. by q (q == d.node) refl;
-    wire = g.sent ∙ ap (λ ms. ms ++ sent_by d) a.wire;
+    wire = λ m c. subst (λ ms. Contains ms m) (sym g.sent) (elim (Contains-append_cases v.wire (sent_by d) m c) [
+      | inl x ↦ Contains-append_left w.wire (sent_by d) m (a.wire m x)
+      | inr x ↦ Contains-append_right w.wire (sent_by d) m x
+    ]);
+    extra = λ m c. elim (Contains-append_cases w.wire (sent_by d) m (subst (λ ms. Contains ms m) g.sent c)) [
+      | inl x ↦ elim (a.extra m x) [
+        | inl y ↦ inl (Contains-append_left v.wire (sent_by d) m y)
+        | inr y ↦ inr y
+      ]
+      | inr x ↦ inl (Contains-append_right v.wire (sent_by d) m x)
+    ];
     proper = λ m c. elim (Contains-append_cases v.wire (sent_by d) m c) [ inl x ↦ a.proper m x | inr x ↦ g.proper m x ];
     sound = after_all n w g.steps g.run a.sound;
   };
@@ -390,11 +480,7 @@ takes n v d w a next well = record {
     g = goes n d.node v w d.what a next well
 
     alone : (q : ℕ) → (q ≡ d.node → ⊥) → (o : Option NodeState) → IsLifeIn n q (v.life q) w o → IsLifeIn n q (v.life q) (after_steps w g.steps) o
-    alone q other None h = stays_down q (v.life q).marked (v.life q).unmarked w (after_steps w g.steps) (steps_alone q d.node w g.steps other g.own) h
-    alone q other (Some s) h =
-        let a : LeavesAlone q w (after_steps w g.steps) = steps_alone q d.node w g.steps other g.own in
-        let t : IsThere n q s w = h.0 in
-        (record { facts = t.facts; heard = t.heard; reached = t.reached; in_world = stays_in_world false n q t.facts t.heard s w (after_steps w g.steps) a t.in_world }, a.kept ∙ h.1)
+    alone q other o h = life_alone n q (v.life q) w (after_steps w g.steps) (steps_alone q d.node w g.steps other g.own) o h
 
     by : (q : ℕ) (b : Bool) → (q == d.node) ≡ b
         → IsLifeIn n q (if b then after_what n d.node d.what (v.life d.node) else v.life q) (after_steps w g.steps) (if b then after_what n d.node d.what (v.life d.node) else v.life q).state

@@ -47,7 +47,7 @@ pub record Invariant (n : ℕ) (w : World) : Type 0 where
 no_member : {A : Type 0} → (x : A) → Contains [] x → ⊥
 no_member x c = let l : c.0 < 0 = c.1 in omega arith
 
-no_place : {A : Type 0} → (a b : List A) (x : A) → [] ≡ a ++ x ∷ b → ⊥
+pub no_place : {A : Type 0} → (a b : List A) (x : A) → [] ≡ a ++ x ∷ b → ⊥
 no_place [] b x e = cc
 no_place (y ∷ a) b x e = cc
 

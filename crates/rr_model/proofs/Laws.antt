@@ -5,6 +5,8 @@ use Rattle.std.proofs.lemmas.List.{take_at, take-take, take-append-drop}
 use Rattle.std.proofs.lemmas.Option.{none-some, same_Some}
 use Rattle.std.proofs.lemmas.List.Elements.{Contains-append_left}
 use Rattle.rr_types.specs.declared.command.Command.{Command}
+use Rattle.rr_types.specs.declared.command.RequestNo.{RequestNo}
+use Rattle.rr_types.specs.declared.command.Reply.{Reply}
 use Rattle.rr_types.specs.Registry.{reply_of}
 use Rattle.rr_types.specs.declared.fact.Fact.{Fact}
 use Rattle.rr_types.specs.declared.fact.Fact.TheVariants.{Enter, Adopt}
@@ -130,18 +132,21 @@ in_front k (suc m) [] c l e = absurd (none-some c e)
 in_front zero (suc m) (x ∷ list) c l e = (0, omega arith, same_Some x c e)
 in_front (suc k) (suc m) (x ∷ list) c l e = let t : Contains (take m list) c = in_front k m list c (le_of_suc-le-suc l) e in (suc t.0, (let h : t.0 < length (take m list) = t.1 in omega arith), t.2)
 
--- a command that was not submitted by then stands behind
-pub later_commands_stand_behind : (n : ℕ) (run : List Step) → IsRun n run → DoLaterCommandsStandBehind n run
-later_commands_stand_behind n run r before after e p q reply told last d c new k at = by_place (real_time_is_kept n run r before after e p q reply told last d)
+-- a command of which no command of the front was one stands behind the front, and the list up to it gives each reply of that
+pub stands_behind : (front last : List Command) (c : Command) (k : ℕ) (q : RequestNo) (reply : Reply) → take (length front) last ≡ front → reply_of front q ≡ Some reply → (Contains front c → ⊥) → slice_get last k ≡ Some c → reply_of (take k last) q ≡ Some reply
+stands_behind front last c k q reply is says new at = elim (cases_lt k (length front)) [
+  | inl l ↦ absurd (new (subst (λ z. Contains z c) is (in_front k (length front) last c l at)))
+  | inr l ↦ behind l
+]
   where
-    behind : (front : List Command) → take (length front) last ≡ front → reply_of front q ≡ Some reply → length front ≤ k → reply_of (take k last) q ≡ Some reply
-    behind front is says l =
+    behind : length front ≤ k → reply_of (take k last) q ≡ Some reply
+    behind l =
         let begins : take (length front) (take k last) ≡ front = take-take (length front) k last l ∙ is in
         let whole : front ++ drop (length front) (take k last) ≡ take k last = ap (λ z. z ++ drop (length front) (take k last)) (sym begins) ∙ take-append-drop (length front) (take k last) in
         subst (λ z. reply_of z q ≡ Some reply) whole (same_reply front (drop (length front) (take k last)) q reply says)
 
-    by_place : ((front : List Command) × (take (length front) last ≡ front) × (reply_of front q ≡ Some reply) × ((c : Command) → Contains front c → Contains (end_of before).submitted c)) → reply_of (take k last) q ≡ Some reply
-    by_place f = elim (cases_lt k (length f.0)) [
-      | inl l ↦ absurd (new (f.3 c (subst (λ z. Contains z c) f.1 (in_front k (length f.0) last c l at))))
-      | inr l ↦ behind f.0 f.1 f.2 l
-    ]
+-- a command that was not submitted by then stands behind
+pub later_commands_stand_behind : (n : ℕ) (run : List Step) → IsRun n run → DoLaterCommandsStandBehind n run
+later_commands_stand_behind n run r before after e p q reply told last d c new k at =
+    let f = real_time_is_kept n run r before after e p q reply told last d in
+    stands_behind f.0 last c k q reply f.1 f.2 (λ there. new (f.3 c there)) at

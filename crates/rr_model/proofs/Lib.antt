@@ -14,8 +14,16 @@ pub mod Invariants
 pub mod Soundness
 pub mod Laws
 pub mod CrashedNodes
+pub mod Outweighed
+pub mod Shifted
 pub mod DeedsInWorld
+pub mod Renews
+pub mod TurnsInWorld
 pub mod DeedAgrees
+pub mod DeedOpens
+pub mod LostDisks
+pub mod NodeNews
+pub mod LostExamples
 pub mod SmallHistories
 pub mod SmallRuns
 pub mod Searches
@@ -26,6 +34,7 @@ pub mod NodeRows
 pub mod NodeTallies
 pub mod NodeBits
 pub mod NodeBacks
+pub mod NodeLowest
 pub mod NodeKnows
 pub mod NodeEnters
 pub mod NodeSettles

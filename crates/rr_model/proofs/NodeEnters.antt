@@ -1,4 +1,4 @@
--- Entering a later round, proposing and deciding stage lawful facts, and leave a node that knows what it should.
+-- Entering a later round, proposing and deciding stage lawful facts of open instances, and leave a node that knows what it should.
 use Rattle.std.proofs.Common.{◌≡◌, ℕ, ◌<◌, suc, Bool, true, false, ◌==◌, ◌&&◌, not, nat_lt, if◌then◌else◌, List, [], ◌∷◌, find, Contains, Option, None, Some, IsTrue, refl, sym, ◌∙◌, subst, arith, ltb-true}
 use Rattle.std.proofs.lemmas.Bool.{ltb-false}
 use Rattle.std.specs.Option.{option_map_or}
@@ -16,9 +16,10 @@ use Rattle.rr_model.proofs.Permitted.{IsNamed, EntersWith, IsPermittedAt}
 use Rattle.rr_model.specs.NodeState.{NodeState, everyone, standing_at, ◌▷◌}
 use Rattle.rr_model.specs.NodeParts.{owe, free_command, backing_at, leave_round, enter_with, entering_estimate, enter, restate, restate_all, conclude, propose}
 use Rattle.rr_model.proofs.NodeBacks.{IsBackedOpen, up_to_last}
-use Rattle.rr_model.proofs.NodeKnows.{Knows, Goes, Alike, alike_itself, alike_on, alike_if, alike_standing, knows_alike, goes_on, goes_nowhere, goes_alike, owe_alike, stage_owe_goes, backs, stood_backed}
+use Rattle.rr_model.proofs.NodeKnows.{Knows, Goes, Alike, alike_itself, alike_on, alike_if, alike_standing, knows_alike, goes_on, goes_nowhere, goes_alike, owe_alike, stage_owe_goes, low_here, backs, stood_backed}
+use Rattle.rr_model.proofs.NodeLowest.{IsLow, IsLowIn}
 
-found_in : {A : Type 0} → (f : A → Bool) (xs : List A) (x : A) → find f xs ≡ Some x → Contains xs x
+pub found_in : {A : Type 0} → (f : A → Bool) (xs : List A) (x : A) → find f xs ≡ Some x → Contains xs x
 found_in f [] x e = absurd (none-some x e)
 found_in f (y ∷ ys) x e = at (found_in f ys x) (f y) e
   where
@@ -58,10 +59,10 @@ leave_alike X p facts h i s e =
 pub goes_from_alike : (X : Type 0) (n p : ℕ) (facts : List Fact) (h : Heard) (s t u : NodeState) → Alike X p facts h s t → Knows X n p facts h s → ((all : List Fact) → Knows X n p all h t → Goes X n p all h t u) → Goes X n p facts h s u
 goes_from_alike X n p facts h s t u a K f = goes_on X n p facts h s t u (goes_alike X n p facts h s t a K) f
 
--- an undecided instance enters a later round
-pub enter_goes : (X : Type 0) (n p : ℕ) (facts : List Fact) (h : Heard) (s : NodeState) (i r : ℕ) (heard : Option Command) → Knows X n p facts h s → IsTrue (is_undecided (standing_at s i)) → round_of (standing_at s i) < r → ((v : Command) → heard ≡ Some v → IsNamed h v) → Goes X n p facts h s (enter i r heard s)
+-- an undecided instance that is open enters a later round
+pub enter_goes : (X : Type 0) (n p : ℕ) (facts : List Fact) (h : Heard) (s : NodeState) (i r : ℕ) (heard : Option Command) → Knows X n p facts h s → IsTrue (is_undecided (standing_at s i)) → round_of (standing_at s i) < r → ((v : Command) → heard ≡ Some v → IsNamed h v) → IsLow s i → Goes X n p facts h s (enter i r heard s)
 unfolding enter
-enter_goes X n p facts h s i r heard K u l H = at (entering_estimate i r heard s) refl
+enter_goes X n p facts h s i r heard K u l H low = at (entering_estimate i r heard s) refl
   where
     lawful : (e : Estimated) → entering_estimate i r heard s ≡ Some e → IsPermittedAt n p (standing_at s i) h (Enter i e)
     lawful e x =
@@ -71,17 +72,17 @@ enter_goes X n p facts h s i r heard K u l H = at (entering_estimate i r heard s
     at : (o : Option Estimated) → entering_estimate i r heard s ≡ o → Goes X n p facts h s (option_map_or (λ e. leave_round i s ▷ enter_with i e) o s)
     at None x = goes_nowhere X n p facts h s K
     at (Some e) x = goes_from_alike X n p facts h s (leave_round i s) (enter_with i e (leave_round i s)) (leave_alike X p facts h i s K.node) K
-        (λ all A. stage_owe_goes X n p all h (leave_round i s) (Enter i e) (say.Estimate i e) _ A (subst (λ z. IsPermittedAt n p z h (Enter i e)) (sym (alike_standing X p facts h s (leave_round i s) (leave_alike X p facts h i s K.node) i)) (lawful e x)) (up_to_last all (Enter i e)) tt)
+        (λ all A. stage_owe_goes X n p all h (leave_round i s) (Enter i e) (say.Estimate i e) _ A (subst (λ z. IsPermittedAt n p z h (Enter i e)) (sym (alike_standing X p facts h s (leave_round i s) (leave_alike X p facts h i s K.node) i)) (lawful e x)) (low_here X n p all h (leave_round i s) i A (subst (λ z. IsLowIn z i) (sym (leave_alike X p facts h i s K.node).rows) low)) (up_to_last all (Enter i e)) tt)
 
 -- a lawful proposal
-pub propose_goes : (X : Type 0) (n p : ℕ) (facts : List Fact) (h : Heard) (s : NodeState) (i r : ℕ) (v : Command) → Knows X n p facts h s → IsPermittedAt n p (standing_at s i) h (Propose i r v) → Goes X n p facts h s (propose i r v s)
+pub propose_goes : (X : Type 0) (n p : ℕ) (facts : List Fact) (h : Heard) (s : NodeState) (i r : ℕ) (v : Command) → Knows X n p facts h s → IsPermittedAt n p (standing_at s i) h (Propose i r v) → IsLow s i → Goes X n p facts h s (propose i r v s)
 unfolding propose
-propose_goes X n p facts h s i r v K l = stage_owe_goes X n p facts h s (Propose i r v) (say.Proposal i r v) _ K l (up_to_last facts (Propose i r v)) tt
+propose_goes X n p facts h s i r v K l low = stage_owe_goes X n p facts h s (Propose i r v) (say.Proposal i r v) _ K l (low_here X n p facts h s i K low) (up_to_last facts (Propose i r v)) tt
 
 -- a lawful decision
 pub conclude_goes : (X : Type 0) (n p : ℕ) (facts : List Fact) (h : Heard) (s : NodeState) (i : ℕ) (v : Command) → Knows X n p facts h s → IsPermittedAt n p (standing_at s i) h (Decide i v) → Goes X n p facts h s (conclude i v s)
 unfolding conclude
-conclude_goes X n p facts h s i v K l = stage_owe_goes X n p facts h s (Decide i v) (say.Decision i v) _ K l (up_to_last facts (Decide i v)) tt
+conclude_goes X n p facts h s i v K l = stage_owe_goes X n p facts h s (Decide i v) (say.Decision i v) _ K l tt (up_to_last facts (Decide i v)) tt
 
 module _ (X : Type 0) (n p : ℕ) (facts : List Fact) (h : Heard) where
   restate_first : (i : ℕ) (s : NodeState) (o : OpenAt) → Knows X n p facts h s → standing_at s i ≡ Some (Open o) → Alike X p facts h s (if nat_lt o.stamp o.round

@@ -127,7 +127,7 @@ decided_among low i (d ∷ ds) rest a j l m = elim (cases_lt low j) [
     turned true e = sym e
     turned false e = refl
 
-undecided_at_least : (k : ℕ) (rows : List Row) → k ≤ undecided_from k rows
+pub undecided_at_least : (k : ℕ) (rows : List Row) → k ≤ undecided_from k rows
 undecided_at_least k [] = omega arith
 undecided_at_least k (r ∷ rows) = by (nat_lt r.instance k) (r.instance == k && is_decided r) (undecided_at_least k rows) (undecided_at_least (k + 1) rows)
   where
@@ -383,7 +383,7 @@ stage_row i f b k to s l =
     ap (λ z. row_of z i) (owe_rows b k to (stage f s) ∙ stage_rows f s) ∙ row_of-rows_after (next_number s) f s.rows i
     ∙ ap (λ z. if z then row_then (next_number s) f (after_fact (stands (row_of s.rows (instance_of f))) f) (row_of s.rows (instance_of f)) else row_of s.rows i) (ne_eqb (instance_of f) i (λ e. omega arith))
 
-enter_row : (i j r : ℕ) (said : Option Command) (s : NodeState) → i < j → row_of (enter j r said s).rows i ≡ row_of s.rows i
+pub enter_row : (i j r : ℕ) (said : Option Command) (s : NodeState) → i < j → row_of (enter j r said s).rows i ≡ row_of s.rows i
 unfolding enter
 enter_row i j r said s l = by (entering_estimate j r said s)
   where

@@ -1,4 +1,4 @@
--- What an input does at once, before anything that is due, stages only lawful facts.
+-- What an input does at once, before anything that is due, stages only lawful facts of open instances.
 use Rattle.std.proofs.Common.{◌≤◌, ◌++◌, ◌&&◌, not, Contains, le_refl, eq-eqb, ◌≡◌, ℕ, ◌+◌, ◌<◌, inl, inr, Bool, true, false, ◌==◌, ◌||◌, nat_lt, if◌then◌else◌, List, [], ◌∷◌, find, Option, None, Some, IsTrue, refl, ap, sym, ◌∙◌, subst, arith, eqb-true, ltb-true}
 use Rattle.std.specs.Option.{option_map_or}
 use Rattle.std.proofs.lemmas.Bool.{false≢true, and_parts, ltb-false}
@@ -28,12 +28,13 @@ use Rattle.rr_types.specs.declared.input.Input.TheVariants.{Submit, Suspect, Tic
 use Rattle.rr_model.specs.NodeStep.{is_waiting, wait_for, submitted, is_list_full, is_behind, ask, acknowledge, ticked_on, lowest_in_round, advanced, count_estimate, count_ack, count_nack, catch_up, take_proposal, take_estimate, answer, heard_body, taken_in}
 use Rattle.rr_model.specs.NodeLaws.{hear_message, IsOfSubmitted, heard_input, IsInputOfNodes}
 use Rattle.rr_model.proofs.Growth.{Within}
+use Rattle.rr_model.proofs.NodeLowest.{IsLow, open_low, is_open_low, low_still, catch_up_low}
 use Rattle.rr_model.proofs.NodeRows.{stands}
 use Rattle.rr_model.proofs.NodeTallies.{IsHeardTally, votes_more}
 use Rattle.rr_model.proofs.NodeBits.{member_of_with}
 use Rattle.rr_model.proofs.NodeBacks.{IsUpTo, IsBackedOpen}
-use Rattle.rr_model.proofs.NodeKnows.{Knows, Goes, Alike, alike_itself, alike_if, goes_on, goes_nowhere, goes_alike, goes_if, owe_alike, stage_goes, stage_stands, pool_add_goes, pool_add_standing, change_goes, knows_grows, backs, stood_backed}
-use Rattle.rr_model.proofs.NodeEnters.{enter_goes, conclude_goes, restate_all_alike}
+use Rattle.rr_model.proofs.NodeKnows.{Knows, Goes, Alike, alike_itself, alike_if, goes_on, goes_nowhere, goes_alike, goes_if, owe_alike, stage_goes, stage_stands, pool_add_goes, pool_add_standing, change_goes, low_here, knows_grows, backs, stood_backed}
+use Rattle.rr_model.proofs.NodeEnters.{found_in, enter_goes, conclude_goes, restate_all_alike}
 
 -- an instance in a round above 0 is in it
 in_round : (s : Option Standing) (r : ℕ) → round_of s ≡ r → 0 < r → IsInRound s r
@@ -58,14 +59,14 @@ after_adopt (Some (Open o)) i r v e l = record { round = e; stamp = le_refl r }
 
 module _ (X : Type 0) (n p : ℕ) (h : Heard) where
   -- where the round heard is later, the instance enters it
-  catch_up_goes : (facts : List Fact) (s : NodeState) (i r : ℕ) (v : Command) → IsNamed h v → Knows X n p facts h s → IsTrue (is_undecided (standing_at s i)) → Goes X n p facts h s (catch_up i r v s)
-  catch_up_goes facts s i r v o K u = goes_if X n p facts h s (enter i r (Some v) s) s (nat_lt (round_of (standing_at s i)) r)
-      (λ l. enter_goes X n p facts h s i r (Some v) K u (ltb-true _ _ l) (λ w e. subst (IsNamed h) (same_Some v w e) o))
+  catch_up_goes : (facts : List Fact) (s : NodeState) (i r : ℕ) (v : Command) → IsNamed h v → Knows X n p facts h s → IsTrue (is_undecided (standing_at s i)) → IsLow s i → Goes X n p facts h s (catch_up i r v s)
+  catch_up_goes facts s i r v o K u low = goes_if X n p facts h s (enter i r (Some v) s) s (nat_lt (round_of (standing_at s i)) r)
+      (λ l. enter_goes X n p facts h s i r (Some v) K u (ltb-true _ _ l) (λ w e. subst (IsNamed h) (same_Some v w e) o) low)
       (λ l. goes_nowhere X n p facts h s K)
 
-  adopt_goes : (facts : List Fact) (s : NodeState) (i r q : ℕ) (v : Command) → Says h.messages (coordinator_of r n) (Proposal i r v) → Knows X n p facts h s → round_of (standing_at s i) ≡ r → Goes X n p facts h s (if nat_lt (stamp_of (standing_at s i)) r then stage (Adopt i r v) s else s)
-  adopt_goes facts s i r q v said K e = goes_if X n p facts h s (stage (Adopt i r v) s) s (nat_lt (stamp_of (standing_at s i)) r)
-      (λ l. let below : stamp_of (standing_at s i) < r = ltb-true _ _ l in stage_goes X n p facts h s (Adopt i r v) K (in_round (standing_at s i) r e (omega arith), below, said))
+  adopt_goes : (facts : List Fact) (s : NodeState) (i r q : ℕ) (v : Command) → Says h.messages (coordinator_of r n) (Proposal i r v) → Knows X n p facts h s → round_of (standing_at s i) ≡ r → IsLow s i → Goes X n p facts h s (if nat_lt (stamp_of (standing_at s i)) r then stage (Adopt i r v) s else s)
+  adopt_goes facts s i r q v said K e low = goes_if X n p facts h s (stage (Adopt i r v) s) s (nat_lt (stamp_of (standing_at s i)) r)
+      (λ l. let below : stamp_of (standing_at s i) < r = ltb-true _ _ l in stage_goes X n p facts h s (Adopt i r v) K (in_round (standing_at s i) r e (omega arith), below, said) (low_here X n p facts h s i K low))
       (λ l. goes_nowhere X n p facts h s K)
 
   -- behind it the node has adopted in the round
@@ -87,10 +88,10 @@ module _ (X : Type 0) (n p : ℕ) (h : Heard) where
   acknowledge_goes facts t i r q K a = goes_alike X n p facts h t _ (owe_alike X p facts h (Ack i r) (Some (backing_at (λ b. b.adopted) t i)) (q ∷ []) t K.node (λ x l. ack_cases facts t i r (standing_at t i) K x refl a l) tt) K
 
   -- a proposal of the present round
-  take_proposal_goes : (facts : List Fact) (s : NodeState) (i r q : ℕ) (v : Command) → Says h.messages (coordinator_of r n) (Proposal i r v) → Knows X n p facts h s → Goes X n p facts h s (take_proposal i r v q s)
+  take_proposal_goes : (facts : List Fact) (s : NodeState) (i r q : ℕ) (v : Command) → Says h.messages (coordinator_of r n) (Proposal i r v) → Knows X n p facts h s → IsLow s i → Goes X n p facts h s (take_proposal i r v q s)
   unfolding take_proposal
-  take_proposal_goes facts s i r q v said K = goes_if X n p facts h s _ s (round_of (standing_at s i) == r)
-      (λ e. goes_on X n p facts h s (if nat_lt (stamp_of (standing_at s i)) r then stage (Adopt i r v) s else s) _ (adopt_goes facts s i r q v said K (eqb-true _ _ e)) (λ all A. acknowledge_goes all (if nat_lt (stamp_of (standing_at s i)) r then stage (Adopt i r v) s else s) i r q A (adopt_stands s i r v (eqb-true _ _ e) (nat_lt (stamp_of (standing_at s i)) r) refl)))
+  take_proposal_goes facts s i r q v said K low = goes_if X n p facts h s _ s (round_of (standing_at s i) == r)
+      (λ e. goes_on X n p facts h s (if nat_lt (stamp_of (standing_at s i)) r then stage (Adopt i r v) s else s) _ (adopt_goes facts s i r q v said K (eqb-true _ _ e) low) (λ all A. acknowledge_goes all (if nat_lt (stamp_of (standing_at s i)) r then stage (Adopt i r v) s else s) i r q A (adopt_stands s i r v (eqb-true _ _ e) (nat_lt (stamp_of (standing_at s i)) r) refl)))
       (λ e. goes_nowhere X n p facts h s K)
 
   round_of_row : (s : NodeState) (i r : ℕ) (row : Row) → row_of s.rows i ≡ Some row → round_of (standing_at s i) ≡ r → round_of (Some row.standing) ≡ r
@@ -139,35 +140,38 @@ module _ (X : Type 0) (n p : ℕ) (h : Heard) where
   ask_goes : (facts : List Fact) (s : NodeState) (to : List ℕ) → Knows X n p facts h s → Goes X n p facts h s (ask to s)
   ask_goes facts s to K = goes_alike X n p facts h s _ (owe_alike X p facts h (Ask (first_undecided s)) None to s K.node (λ x. tt) tt) K
 
-  if_open_goes : (facts : List Fact) (s t : NodeState) (i q : ℕ) → Knows X n p facts h s → Goes X n p facts h s t → Goes X n p facts h s (if is_open s i then t else ask (q ∷ []) s)
-  if_open_goes facts s t i q K g = goes_if X n p facts h s t (ask (q ∷ []) s) (is_open s i) (λ e. g) (λ e. ask_goes facts s (q ∷ []) K)
+  if_open_goes : (facts : List Fact) (s t : NodeState) (i q : ℕ) → Knows X n p facts h s → (IsLow s i → Goes X n p facts h s t) → Goes X n p facts h s (if is_open s i then t else ask (q ∷ []) s)
+  if_open_goes facts s t i q K g = goes_if X n p facts h s t (ask (q ∷ []) s) (is_open s i) (λ e. g (is_open_low s i e)) (λ e. ask_goes facts s (q ∷ []) K)
 
   still_undecided : (s : NodeState) (i : ℕ) (v : Command) → IsTrue (is_undecided (standing_at s i)) → IsTrue (is_undecided (standing_at (pool_add v s) i))
   still_undecided s i v u = subst (λ z. IsTrue (is_undecided z)) (sym (pool_add_standing v s i)) u
 
-  estimate_goes : (facts : List Fact) (s : NodeState) (i q : ℕ) (e : Estimated) → q < n → Says h.messages q (Estimate i e) → IsNamed h e.command → Knows X n p facts h s → IsTrue (is_undecided (standing_at s i)) → Goes X n p facts h s (s ▷ pool_add e.command ▷ catch_up i e.round e.command ▷ take_estimate i q e)
-  estimate_goes facts s i q e l said o K u =
+  still_low : (s : NodeState) (i : ℕ) (v : Command) → IsLow s i → IsLow (pool_add v s) i
+  still_low s i v low = low_still s (pool_add v s) i (λ j m. pool_add_standing v s j) low
+
+  estimate_goes : (facts : List Fact) (s : NodeState) (i q : ℕ) (e : Estimated) → q < n → Says h.messages q (Estimate i e) → IsNamed h e.command → Knows X n p facts h s → IsTrue (is_undecided (standing_at s i)) → IsLow s i → Goes X n p facts h s (s ▷ pool_add e.command ▷ catch_up i e.round e.command ▷ take_estimate i q e)
+  estimate_goes facts s i q e l said o K u low =
       goes_on X n p facts h s (pool_add e.command s) _ (pool_add_goes X n p facts h s e.command o K) (λ all A.
-      goes_on X n p all h (pool_add e.command s) (catch_up i e.round e.command (pool_add e.command s)) _ (catch_up_goes all (pool_add e.command s) i e.round e.command o A (still_undecided s i e.command u)) (λ more B.
+      goes_on X n p all h (pool_add e.command s) (catch_up i e.round e.command (pool_add e.command s)) _ (catch_up_goes all (pool_add e.command s) i e.round e.command o A (still_undecided s i e.command u) (still_low s i e.command low)) (λ more B.
       take_estimate_goes more (catch_up i e.round e.command (pool_add e.command s)) i q e l said B))
 
-  proposal_goes : (facts : List Fact) (s : NodeState) (i r q : ℕ) (v : Command) → Says h.messages (coordinator_of r n) (Proposal i r v) → IsNamed h v → Knows X n p facts h s → IsTrue (is_undecided (standing_at s i)) → Goes X n p facts h s (s ▷ pool_add v ▷ catch_up i r v ▷ take_proposal i r v q)
-  proposal_goes facts s i r q v said o K u =
+  proposal_goes : (facts : List Fact) (s : NodeState) (i r q : ℕ) (v : Command) → Says h.messages (coordinator_of r n) (Proposal i r v) → IsNamed h v → Knows X n p facts h s → IsTrue (is_undecided (standing_at s i)) → IsLow s i → Goes X n p facts h s (s ▷ pool_add v ▷ catch_up i r v ▷ take_proposal i r v q)
+  proposal_goes facts s i r q v said o K u low =
       goes_on X n p facts h s (pool_add v s) _ (pool_add_goes X n p facts h s v o K) (λ all A.
-      goes_on X n p all h (pool_add v s) (catch_up i r v (pool_add v s)) _ (catch_up_goes all (pool_add v s) i r v o A (still_undecided s i v u)) (λ more B.
-      take_proposal_goes more (catch_up i r v (pool_add v s)) i r q v said B))
+      goes_on X n p all h (pool_add v s) (catch_up i r v (pool_add v s)) _ (catch_up_goes all (pool_add v s) i r v o A (still_undecided s i v u) (still_low s i v low)) (λ more B.
+      take_proposal_goes more (catch_up i r v (pool_add v s)) i r q v said B (catch_up_low i r v (pool_add v s) (still_low s i v low))))
 
   -- what a message of node q says, once it was heard
   body_goes : (facts : List Fact) (s : NodeState) (q : ℕ) (b : Body) → q < n → Says h.messages q b → Knows X n p facts h s → Goes X n p facts h s (heard_body q b s)
   unfolding heard_body
   body_goes facts s q (Estimate i e) l said K = goes_if X n p facts h s _ (answer i q s) (is_undecided (standing_at s i))
-      (λ u. if_open_goes facts s _ i q K (goes_if X n p facts h s _ s (coordinator_of e.round s.nodes == s.node)
-      (λ c. estimate_goes facts s i q e l said (inl (_, said.1, refl)) K u)
+      (λ u. if_open_goes facts s _ i q K (λ low. goes_if X n p facts h s _ s (coordinator_of e.round s.nodes == s.node)
+      (λ c. estimate_goes facts s i q e l said (inl (_, said.1, refl)) K u low)
       (λ c. goes_nowhere X n p facts h s K)))
       (λ u. goes_alike X n p facts h s _ (answer_alike facts s i q K) K)
   body_goes facts s q (Proposal i r v) l said K = goes_if X n p facts h s _ s (is_undecided (standing_at s i))
-      (λ u. if_open_goes facts s _ i q K (goes_if X n p facts h s _ s (coordinator_of r s.nodes == q)
-      (λ c. proposal_goes facts s i r q v (subst (λ z. Says h.messages z (Proposal i r v)) (sym (eqb-true _ _ c) ∙ ap (coordinator_of r) K.nodes) said) (inl (_, said.1, refl)) K u)
+      (λ u. if_open_goes facts s _ i q K (λ low. goes_if X n p facts h s _ s (coordinator_of r s.nodes == q)
+      (λ c. proposal_goes facts s i r q v (subst (λ z. Says h.messages z (Proposal i r v)) (sym (eqb-true _ _ c) ∙ ap (coordinator_of r) K.nodes) said) (inl (_, said.1, refl)) K u low)
       (λ c. goes_nowhere X n p facts h s K)))
       (λ u. goes_nowhere X n p facts h s K)
   body_goes facts s q (Ack i r) l said K = goes_if X n p facts h s (count_ack i q s) s _
@@ -232,7 +236,7 @@ module _ (X : Type 0) (n p : ℕ) (h : Heard) where
     where
       at : (o : Option ℕ) → lowest_in_round s ≡ o → Goes X n p facts h s (option_map_or (λ i. enter i (round_of (standing_at s i) + 1) None s) o s)
       at None e = goes_nowhere X n p facts h s K
-      at (Some i) e = enter_goes X n p facts h s i (round_of (standing_at s i) + 1) None K (in_round_undecided (standing_at s i) (in_some_round s (open_instances s) i e)) (omega arith) (λ v x. absurd (none-some v x))
+      at (Some i) e = enter_goes X n p facts h s i (round_of (standing_at s i) + 1) None K (in_round_undecided (standing_at s i) (in_some_round s (open_instances s) i e)) (omega arith) (λ v x. absurd (none-some v x)) (open_low s i (found_in (λ j. nat_lt 0 (round_of (standing_at s j))) (open_instances s) i e))
 
 -- what was heard before an input, and the input
 heard_grows : (p : ℕ) (h : Heard) (input : Input Message) → Within h (heard_input p h input)

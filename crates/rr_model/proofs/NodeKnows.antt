@@ -1,5 +1,5 @@
 -- What a node knows of its facts and of what it heard, and that it still knows it once nothing or lawful facts were staged.
-use Rattle.std.proofs.Common.{◌≡◌, ℕ, ◌+◌, ◌⊎◌, inl, inr, Bool, true, false, ◌==◌, if◌then◌else◌, List, [], ◌∷◌, ◌++◌, length, length-append, filter, Contains, Option, None, Some, refl, ap, sym, ◌∙◌, subst, arith, append_assoc, append-nil, eqb-true}
+use Rattle.std.proofs.Common.{◌≡◌, ℕ, ◌+◌, ◌<◌, ◌⊎◌, inl, inr, Bool, true, false, ◌==◌, if◌then◌else◌, List, [], ◌∷◌, ◌++◌, length, length-append, filter, Contains, Option, None, Some, refl, ap, sym, ◌∙◌, subst, arith, append_assoc, append-nil, eqb-true}
 use Rattle.std.specs.Option.{option_map_or}
 use Rattle.std.proofs.lemmas.Option.{none-some, same_Some}
 use Rattle.std.proofs.lemmas.List.Elements.{All-contains_itself, All-filter, All-contains, All-map, All-weaker, Contains-append_cases, Contains-push_cases}
@@ -19,8 +19,10 @@ use Rattle.rr_model.specs.NodeState.{NodeState, Row, Owed, Backing, Vote, Tally,
 use Rattle.rr_model.specs.NodeParts.{messages_to, backing_after, backing_at, tally_after, pool_after, owe, pool_add, stage}
 use Rattle.rr_model.specs.NodeStep.{change_tally}
 use Rattle.rr_model.specs.NodeLaws.{IsOfSubmitted, AreLawful}
+use Rattle.rr_model.specs.NodeOpens.{undecided_below, IsOfOpen, AreOfOpen}
 use Rattle.rr_model.proofs.Histories.{standing_push}
 use Rattle.rr_model.proofs.Growth.{Within}
+use Rattle.rr_model.proofs.NodeLowest.{IsLow, low_both, low_by_facts}
 use Rattle.rr_model.proofs.NodeRows.{stands, row_then, row_of-put_row, row_of_instance, row_of-rows_after, stands-row_then}
 use Rattle.rr_model.proofs.NodeTallies.{AreHeardVotes, IsHeardTally, nothing_tallied}
 use Rattle.rr_model.proofs.NodeBits.{no_member_of_none}
@@ -45,11 +47,12 @@ pub record Knows (X : Type 0) (n p : ℕ) (facts : List Fact) (h : Heard) (s : N
   pub backed : X → (i : ℕ) (row : Row) → row_of s.rows i ≡ Some row → IsBackedRow facts i row.backing row.standing
   pub owed : X → (o : Owed) → Contains s.owed o → IsTrulyOwed p facts h o
 
--- from one state to another the node stages facts that are lawful, and knows what it should
+-- from one state to another the node stages facts that are lawful and of open instances, and knows what it should
 pub record Goes (X : Type 0) (n p : ℕ) (facts : List Fact) (h : Heard) (s t : NodeState) : Type 0 where
   pub more : List Fact
   pub staged : t.staged ≡ s.staged ++ more
   pub lawful : AreLawful n p facts h more
+  pub low : AreOfOpen facts more
   pub knows : Knows X n p (facts ++ more) h t
   pub running : t.running ≡ s.running
   pub marked_end : t.marked_end ≡ s.marked_end
@@ -66,6 +69,7 @@ goes_on X n p facts h s t u a f =
       more = a.more ++ b.more;
       staged = b.staged ∙ ap (λ z. z ++ b.more) a.staged ∙ append_assoc s.staged a.more b.more;
       lawful = lawful_both n p facts h a.more b.more a.lawful b.lawful;
+      low = low_both facts a.more b.more a.low b.low;
       knows = subst (λ z. Knows X n p z h u) (append_assoc facts a.more b.more) b.knows;
       running = b.running ∙ a.running;
       marked_end = b.marked_end ∙ a.marked_end;
@@ -166,6 +170,7 @@ goes_still X n p facts h s t e r m K = record {
   more = [];
   staged = e ∙ sym (append-nil s.staged);
   lawful = tt;
+  low = tt;
   knows = subst (λ z. Knows X n p z h t) (sym (append-nil facts)) K;
 }
 
@@ -270,20 +275,21 @@ stage_end : (f : Fact) (s : NodeState) → (stage f s).marked_end ≡ s.marked_e
 unfolding stage
 stage_end f s = refl
 
--- a lawful fact staged
-pub stage_goes : (X : Type 0) (n p : ℕ) (facts : List Fact) (h : Heard) (s : NodeState) (f : Fact) → Knows X n p facts h s → IsPermittedAt n p (standing_at s (instance_of f)) h f → Goes X n p facts h s (stage f s)
-stage_goes X n p facts h s f K l = record {
+-- a lawful fact of an open instance staged
+pub stage_goes : (X : Type 0) (n p : ℕ) (facts : List Fact) (h : Heard) (s : NodeState) (f : Fact) → Knows X n p facts h s → IsPermittedAt n p (standing_at s (instance_of f)) h f → IsOfOpen facts f → Goes X n p facts h s (stage f s)
+stage_goes X n p facts h s f K l o = record {
   more = f ∷ [];
   staged = stage_staged f s;
   running = stage_running f s;
   marked_end = stage_end f s;
   lawful = (permitted_lawful n p (standing_of (instance_of f) facts) h f (subst (λ z. IsPermittedAt n p z h f) (K.standings (instance_of f)) l), tt);
+  low = (o, tt);
   knows = stage_knows X n p facts h s f l K;
 }
 
 -- and a message owed for it
-pub stage_owe_goes : (X : Type 0) (n p : ℕ) (facts : List Fact) (h : Heard) (s : NodeState) (f : Fact) (b : Body) (to : List ℕ) → Knows X n p facts h s → IsPermittedAt n p (standing_at s (instance_of f)) h f → IsBackedUpTo (facts ++ f ∷ []) (length facts) b → IsOfSubmitted b h.commands → Goes X n p facts h s (owe b (Some (next_number s)) to (stage f s))
-stage_owe_goes X n p facts h s f b to K l x y =
+pub stage_owe_goes : (X : Type 0) (n p : ℕ) (facts : List Fact) (h : Heard) (s : NodeState) (f : Fact) (b : Body) (to : List ℕ) → Knows X n p facts h s → IsPermittedAt n p (standing_at s (instance_of f)) h f → IsOfOpen facts f → IsBackedUpTo (facts ++ f ∷ []) (length facts) b → IsOfSubmitted b h.commands → Goes X n p facts h s (owe b (Some (next_number s)) to (stage f s))
+stage_owe_goes X n p facts h s f b to K l o x y =
     let A : Knows X n p (facts ++ f ∷ []) h (stage f s) = stage_knows X n p facts h s f l K in
     let own : Alike X p (facts ++ f ∷ []) h (stage f s) (owe b (Some (next_number s)) to (stage f s)) = owe_alike X p (facts ++ f ∷ []) h b (Some (next_number s)) to (stage f s) A.node (λ z. subst (λ k. IsBackedUpTo (facts ++ f ∷ []) k b) (sym (number X n p facts h s K)) x) y in
     record {
@@ -292,6 +298,7 @@ stage_owe_goes X n p facts h s f b to K l x y =
       running = own.running ∙ stage_running f s;
       marked_end = own.marked_end ∙ stage_end f s;
       lawful = (permitted_lawful n p (standing_of (instance_of f) facts) h f (subst (λ z. IsPermittedAt n p z h f) (K.standings (instance_of f)) l), tt);
+      low = (o, tt);
       knows = knows_alike X n p (facts ++ f ∷ []) h (stage f s) (owe b (Some (next_number s)) to (stage f s)) own A;
     }
 
@@ -404,3 +411,7 @@ stood_backed X n p facts h s K x i t e = at (row_of s.rows i) refl e
     at : (o : Option Row) → row_of s.rows i ≡ o → stands o ≡ Some t → IsBackedRow facts i (record { entered = option_map_or (λ (r : Row). r.backing.entered) o 0; proposed = option_map_or (λ (r : Row). r.backing.proposed) o 0; adopted = option_map_or (λ (r : Row). r.backing.adopted) o 0; decided = option_map_or (λ (r : Row). r.backing.decided) o 0 }) t
     at None a b = absurd (none-some t b)
     at (Some row) a b = subst (IsBackedRow facts i row.backing) (same_Some _ t b) (K.backed x i row a)
+
+-- an open instance is one of the lowest by the facts, too
+pub low_here : (X : Type 0) (n p : ℕ) (facts : List Fact) (h : Heard) (s : NodeState) (i : ℕ) → Knows X n p facts h s → IsLow s i → undecided_below i facts < 8
+low_here X n p facts h s i K l = low_by_facts s facts i K.standings l

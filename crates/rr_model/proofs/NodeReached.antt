@@ -1,4 +1,4 @@
--- What holds of a node that was reached: it is truthful and lawful, and its facts fit.
+-- What holds of a node that was reached: it is truthful and lawful, opens only the lowest instances, and its facts fit.
 use Rattle.std.proofs.Common.{◌≡◌, ℕ, true, List, [], ◌∷◌, ◌++◌, length, take, refl, ap, sym, ◌∙◌, subst, append-nil}
 use Rattle.std.proofs.lemmas.Bool.{and_from}
 use Rattle.std.proofs.lemmas.List.{take_at}
@@ -7,6 +7,7 @@ use Rattle.rr_types.specs.Facts.{instance_of, standing_of}
 use Rattle.rr_types.specs.Standings.{fits}
 use Rattle.rr_types.specs.Promises.{promise_of, all_fit}
 use Rattle.rr_model.specs.Lawful.{Heard}
+use Rattle.rr_model.specs.NodeOpens.{OpensTheLowest}
 use Rattle.rr_model.specs.NodeState.{NodeState}
 use Rattle.rr_types.specs.declared.input.Input.{Input}
 use Rattle.rr_types.specs.declared.message.Message.{Message}
@@ -76,6 +77,16 @@ module _ (n p : ℕ) (facts : List Fact) (h : Heard) (s : NodeState) (R : IsReac
   reached_lawful Marked x = (tt, tt)
   reached_lawful Left x = (tt, tt)
   reached_lawful Answered x = (tt, tt)
+
+  -- and those of open instances alone, decisions aside
+  pub reached_opens : (e : StateEvent) → IsProperEvent n e → OpensTheLowest facts s e
+  reached_opens (Told input) x =
+      (steps (Unit {0}) n p facts (heard_input p h input) s (node_step input s) (step_goes (Unit {0}) n p facts h s input (input_of_nodes n input x) (reached_knows n p facts h s R))).low
+  reached_opens Grouped x = tt
+  reached_opens PutBack x = tt
+  reached_opens Marked x = tt
+  reached_opens Left x = tt
+  reached_opens Answered x = tt
 
 -- lawful facts fit the promise of those before them
 lawful_all_fit : (n p : ℕ) (before : List Fact) (h : Heard) (more : List Fact) → AreLawful n p before h more → all_fit n p (promise_of before) more ≡ true

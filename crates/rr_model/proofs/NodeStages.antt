@@ -1,4 +1,4 @@
--- A node's step stages only lawful facts, and so does whatever happens at a node opened over any facts.
+-- A node's step stages only lawful facts of open instances, and so does whatever happens at a node opened over any facts.
 use Rattle.std.proofs.Common.{◌≡◌, ℕ, ◌+◌, ◌-◌, ◌<◌, zero, suc, inl, Bool, true, false, ◌==◌, nat_lt, if◌then◌else◌, List, [], ◌∷◌, ◌++◌, length, length-append, take, drop, take-append-drop, get_or, map, find, Option, None, Some, is_none, option_map, Contains, refl, ap, sym, ◌∙◌, subst, arith, append-nil, append_assoc, le_of_suc-le-suc, ltb-true}
 use Rattle.std.specs.Option.{option_map_or}
 use Rattle.std.proofs.lemmas.Option.{none-some, same_Some}
@@ -21,6 +21,7 @@ use Rattle.rr_types.specs.declared.input.Input.{Input}
 use Rattle.rr_model.specs.NodeStep.{node_step, taken_in, group_taken, group_put_back, marked_running, may_leave, without_first_leaving, message_left, acknowledged, promised_row, restored, started}
 use Rattle.rr_model.specs.NodeDue.{settle}
 use Rattle.rr_model.specs.NodeLaws.{IsOfSubmitted, AreLawful, StateEvent, Told, Grouped, PutBack, Marked, Left, Answered, after_event, heard_input, heard_after, IsInputOfNodes, IsEventOfNodes, AreEventsOfNodes, facts_of_input, facts_of_event, StagesOnlyLawful, IsLawfulNode, HasRound, IsTruthful, StaysTruthful, IsTruthfulNode}
+use Rattle.rr_model.specs.NodeOpens.{AreOfOpen}
 use Rattle.rr_model.proofs.Promised.{standing_in-promise_of}
 use Rattle.rr_model.proofs.NodeRows.{stands, stands-promised}
 use Rattle.rr_model.proofs.NodeTallies.{IsHeardTally, nothing_tallied}
@@ -45,6 +46,7 @@ drop_front (x ∷ xs) ys = drop_front xs ys
 pub record Steps (X : Type 0) (n p : ℕ) (facts : List Fact) (h : Heard) (s t : NodeState) : Type 0 where
   pub behind : t.staged ≡ s.staged ++ drop (length s.staged) t.staged
   pub lawful : AreLawful n p facts h (drop (length s.staged) t.staged)
+  pub low : AreOfOpen facts (drop (length s.staged) t.staged)
   pub knows : Knows X n p (facts ++ drop (length s.staged) t.staged) h t
   pub running : t.running ≡ s.running
   pub marked_end : t.marked_end ≡ s.marked_end
@@ -55,6 +57,7 @@ steps X n p facts h s t g =
     record {
       behind = g.staged ∙ ap (λ z. s.staged ++ z) (sym e);
       lawful = subst (λ z. AreLawful n p facts h z) (sym e) g.lawful;
+      low = subst (λ z. AreOfOpen facts z) (sym e) g.low;
       knows = subst (λ z. Knows X n p (facts ++ z) h t) (sym e) g.knows;
       running = g.running;
       marked_end = g.marked_end;

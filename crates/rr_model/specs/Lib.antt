@@ -13,9 +13,12 @@ pub mod ClusterExamples
 pub mod NodeExamples
 pub mod Laws
 pub mod NodeStays
+pub mod NodeOpens
 pub mod NodeReached
 pub mod NodeInWorld
 pub mod NoDeadEnd
 pub mod NodesGoOn
 pub mod NodesRestart
 pub mod Deeds
+pub mod LostDisks
+pub mod RenewedDisks

@@ -51,6 +51,9 @@ ghost use Rattle.rr_model.specs.ClusterExamples.{claim_a_y, round_stamp, first_r
 ghost use Rattle.rr_model.specs.Sound.{IsSound, IsChosen, IsDecidedList};
 ghost use Rattle.rr_model.specs.declared.deed.Deed.{Deed};
 ghost use Rattle.rr_model.specs.Deeds.{IsHistory, OpensWell, AgreesWithOneList as AgreesWithOne, first_start, IsFirstStartEmpty, HearsNothingUnsent, DoesNothingDown};
+ghost use Rattle.rr_model.specs.LostDisks.{DoDecisionsOutweigh, StagesJustTheNews, DoesNewsOutweigh, lives_after, BoundsLostFacts, MayBeginAnew, asked_alone, HasFactsOfEight, DoesOneLeftOutCount};
+ghost use Rattle.rr_model.specs.NodeOpens.{OpensTheLowest};
+ghost use Rattle.rr_model.specs.RenewedDisks.{Turn, AreTurns, DoTurnsAgree, lives_then, AreDisksChosen, MayBeRenewed, renewed_in_time, IsRenewedTooEarly};
 ghost use Rattle.rr_model.specs.NoDeadEnd.{NoDeadEnd, EachCanBeServed};
 ghost use Rattle.rr_model.specs.NodesGoOn.{NodesCanGoOn, RoundsCanEnd, DecisionsCanBeLearned};
 ghost use Rattle.rr_model.specs.NodesRestart.{GapsCanBeFilled, DecidedCanBeAcknowledged, RequestsCanBeServed};
@@ -131,6 +134,46 @@ pub fn examples_of_histories()
     ensures a_node_that_is_down_does_nothing { DoesNothingDown }
 {}
 
+/// When a node whose disk is lost may begin anew, with nothing but decisions. Take a majority without it, and the highest
+/// instance of which a disk of these has a fact. The lost node has decided no later instance, and has had no fact of one
+/// more than eight above. So it may begin anew once a command is chosen for each instance up to there. With these decisions
+/// alone it stands as if it had kept its disk and heard them. Only the numbers of its facts differ, which no other node sees.
+///
+/// The premises are those of [`histories_agree`], and that the commands are chosen. [`renewed_disks`] says what then follows.
+pub fn lost_disks()
+    ensures decisions_outweigh_facts { (facts : List Fact) (list : List Command) → DoDecisionsOutweigh facts list }
+    ensures a_node_stages_what_is_news { (n p : ℕ) (facts : List Fact) (list : List Command) → StagesJustTheNews n p facts list }
+    ensures what_is_news_outweighs_them { (n : ℕ) (run : List Step) → IsRun n run → DoesNewsOutweigh n run }
+    ensures a_majority_bounds_lost_facts { (n : ℕ) (deeds : List Deed) → IsHistory n deeds → OpensWell n deeds → BoundsLostFacts n (lives_after n deeds) }
+    ensures a_lost_node_may_begin_anew { (n : ℕ) (deeds : List Deed) → IsHistory n deeds → OpensWell n deeds → MayBeginAnew n deeds }
+{}
+
+/// Histories in which lost disks are made anew, of decisions alone, agree with one list, as [`histories_agree`] says of
+/// others. There a disk may be made anew where its node is down and the list's commands are chosen. All facts that the node
+/// had have to lie below the end of the list. A majority bounds these facts here too. Let one promise nothing from some
+/// instance on, while the node is down, and let the node do nothing since. Then its disk may be made anew once commands are
+/// chosen for all instances up to the eight from there. What the disk of any node that is down has decided without a gap
+/// is chosen.
+///
+/// That the disk has just these decisions, and that nobody uses the old one again, are premises.
+pub fn renewed_disks()
+    ensures renewed_histories_agree { (n : ℕ) (turns : List Turn) → AreTurns n turns → DoTurnsAgree n turns }
+    ensures a_majority_bounds_lost_facts { (n : ℕ) (turns : List Turn) → AreTurns n turns → BoundsLostFacts n (lives_then n turns) }
+    ensures what_disks_have_decided_is_chosen { (n : ℕ) (turns : List Turn) → AreTurns n turns → AreDisksChosen n (lives_then n turns) }
+    ensures a_lost_disk_may_be_made_anew { (n : ℕ) (before after : List Turn) → AreTurns n (before ++ after) → MayBeRenewed n before after }
+{}
+
+/// Small examples of lost disks. A node can have facts of all eight instances, of which no other node has heard. Where one
+/// of them is left out, the lost node would stand otherwise, and its disk may not be made anew.
+pub fn examples_of_lost_disks()
+    ensures a_node_is_asked_alone { IsHistory 3 asked_alone }
+    ensures it_finds_its_facts { OpensWell 3 asked_alone }
+    ensures it_has_facts_of_eight_instances { HasFactsOfEight }
+    ensures one_left_out_counts { DoesOneLeftOutCount }
+    ensures a_disk_is_made_anew { AreTurns 3 renewed_in_time }
+    ensures not_with_an_instance_left_out { IsRenewedTooEarly }
+{}
+
 /// Laws of facts: what a promise says, that lawful facts fit, and which commands are one.
 pub fn laws_of_facts()
     ensures a_promise_says_where_instances_stand { (facts : List Fact) → DoesPromiseStand facts }
@@ -152,12 +195,14 @@ pub fn laws_of_nodes()
 {}
 
 /// Laws of one moment of a node that was opened over facts that fit, and of the event after it: it says only what
-/// its marked facts back, its facts fit, it stages only lawful ones, and what leaves it names rounds above 0.
+/// its marked facts back, its facts fit, it stages only lawful ones, and what leaves it names rounds above 0. What it
+/// stages is a decision, or of one of its eight lowest undecided instances.
 pub fn laws_of_reached_nodes()
     ensures reached_nodes_are_truthful { (n p : ℕ) (facts : List Fact) (h : Heard) (s : NodeState) → IsReached n p facts h s → IsTruthful p facts h s }
     ensures they_stay_who_they_are { (n p : ℕ) (facts : List Fact) (h : Heard) (s : NodeState) → IsReached n p facts h s → IsItself n p facts s }
     ensures their_facts_fit { (n p : ℕ) (facts : List Fact) (h : Heard) (s : NodeState) → IsReached n p facts h s → IsTrue (all_fit n p [] facts) }
     ensures they_stage_only_lawful_facts { (n p : ℕ) (facts : List Fact) (h : Heard) (s : NodeState) (e : StateEvent) → IsReached n p facts h s → IsProperEvent n e → StagesLawfully n p facts h s e }
+    ensures they_open_only_the_lowest { (n p : ℕ) (facts : List Fact) (h : Heard) (s : NodeState) (e : StateEvent) → IsReached n p facts h s → IsProperEvent n e → OpensTheLowest facts s e }
     ensures their_messages_name_rounds { (n p : ℕ) (facts : List Fact) (h : Heard) (s : NodeState) (m : Message) → IsReached n p facts h s → next_leaving s ≡ Some m → (m.from ≡ p) × NamesRounds m.body }
 {}
 
