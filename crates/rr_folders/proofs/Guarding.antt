@@ -1,8 +1,9 @@
 -- What a verdict guards: no node that has been formatted is taken for a fresh one.
-use Rattle.std.proofs.Common.{◌≡◌, ◌⊎◌, inl, inr, ◌||◌, ℕ, ◌+◌, ◌&&◌, Bool, true, false, cond, eqb, List, [], ◌∷◌, Option, None, Some, refl, ap, subst, ◌∙◌, sym}
+use Rattle.std.proofs.Common.{◌≡◌, ◌⊎◌, inl, inr, ◌||◌, ℕ, zero, suc, ◌+◌, ◌*◌, ◌%◌, ◌^◌, ◌<◌, ◌≤◌, ◌&&◌, Bool, true, false, cond, eqb, ltb, List, [], ◌∷◌, ◌++◌, length, map, is_none, Option, None, Some, refl, ap, subst, ◌∙◌, sym, arith}
 use Rattle.std.specs.List.{list_all}
-use Rattle.std.proofs.lemmas.Bool.{and_parts, eqb-true}
-use Rattle.rr_types.specs.Nodes.{has_member}
+use Rattle.std.proofs.lemmas.Bool.{and_parts, eqb-true, ltb-true}
+use Rattle.std.proofs.Math.Nat.{zero-div}
+use Rattle.rr_types.specs.Nodes.{has_member, with_member}
 use Rattle.rr_folders.specs.declared.cluster.Identity.{Identity}
 use Rattle.rr_folders.specs.declared.cluster.Cluster.{Cluster}
 use Rattle.rr_folders.specs.declared.cluster.Mark.{Mark}
@@ -13,11 +14,12 @@ use Rattle.rr_folders.specs.declared.front.Content.{Content}
 use Rattle.rr_folders.specs.declared.front.Content.TheVariants as contents
 use Rattle.rr_folders.specs.declared.judging.Found.{Found}
 use Rattle.rr_folders.specs.declared.judging.Fault.{Fault}
-use Rattle.rr_folders.specs.declared.judging.Fault.TheVariants.{OtherNode, OtherNodes, OtherCluster, Older, Outdated}
+use Rattle.rr_folders.specs.declared.judging.Fault.TheVariants.{OtherNode, OtherNodes, OtherCluster, Older, Outdated, LeftOut, Unfounded}
 use Rattle.rr_folders.specs.declared.judging.Verdict.{Verdict}
 use Rattle.rr_folders.specs.declared.judging.Verdict.TheVariants.{Open, Begin, TakeOn, Refused}
 use Rattle.rr_folders.specs.Clusters.{same_identity, same_digest, reaches, is_behind}
-use Rattle.rr_folders.specs.Judging.{mark_fault, owner_fault, loss_fault, unmarked_fault, ◌or_else◌, course_of, lapse_of, forgetful_fault, lag_fault, outdated_fault, memory_fault, disk_fault, fault_of, at_or, first_fault, refused_or, is_blank, is_unmarked, is_fresh, first_identity, identity_or, verdict_of, Each, HasDisk, IsAsFar, IsAsNoted, IsNotBehind, KeepsItsMark, KeepsItsDisk, IsFresh, Guards}
+use Rattle.rr_folders.specs.Returns.{HomeState}
+use Rattle.rr_folders.specs.Judging.{mark_fault, owner_fault, loss_fault, unmarked_fault, ◌or_else◌, course_of, lapse_of, forgetful_fault, lag_fault, outdated_fault, memory_fault, disk_fault, fault_of, AreLeftOut, at_or, first_left_out, count_there, leave_fault, left_out_with, first_there, first_fault, refused_or, is_blank, is_unmarked, is_fresh, is_fresh_at, first_identity, identity_or, verdict_by_nodes, verdict_by_all, verdict_of, Each, HasDisk, IsAsFar, IsAsNoted, IsNotBehind, KeepsItsMark, KeepsItsDisk, IsFresh, IsServed, Guards, MayReturn}
 
 -- ---- one folder
 
@@ -134,9 +136,10 @@ none_here p None y e = (refl, e)
 none_here p (Some x) y e = absurd cc
 
 each_of : (P : ℕ → Found → Type 0) (i : Identity) (n : ℕ) (formatted : Option ℕ) → ((p : ℕ) (f : Found) → fault_of i n formatted p f ≡ None → P p f)
-    → (p : ℕ) (fs : List Found) → first_fault i n formatted p fs ≡ None → Each P p fs
+    → (p : ℕ) (fs : List (Option Found)) → first_fault i n formatted p fs ≡ None → Each P p fs
 each_of P i n formatted one p [] none = tt
-each_of P i n formatted one p (f ∷ fs) none =
+each_of P i n formatted one p (None ∷ fs) none = each_of P i n formatted one (p + 1) fs none
+each_of P i n formatted one p (Some f ∷ fs) none =
     let both = none_here p (fault_of i n formatted p f) (first_fault i n formatted (p + 1) fs) none in
     (one p f both.0, each_of P i n formatted one (p + 1) fs both.1)
 
@@ -144,37 +147,146 @@ no_mark : (m : Option Mark) → is_unmarked m ≡ true → m ≡ None
 no_mark None e = refl
 no_mark (Some m) e = absurd cc
 
-fresh_each : (p : ℕ) (fs : List Found) → list_all is_fresh fs ≡ true → Each IsFresh p fs
+fresh_each : (p : ℕ) (fs : List (Option Found)) → list_all is_fresh_at fs ≡ true → Each IsFresh p fs
 fresh_each p [] all = tt
-fresh_each p (f ∷ fs) all =
-    let both = and_parts (is_fresh f) (list_all is_fresh fs) all in
+fresh_each p (None ∷ fs) all = absurd cc
+fresh_each p (Some f ∷ fs) all =
+    let both = and_parts (is_fresh f) (list_all is_fresh_at fs) all in
     let one = and_parts (is_blank f.content) (is_unmarked f.mark) both.0 in
     ((one.0, no_mark f.mark one.1), fresh_each (p + 1) fs both.1)
 
+-- ---- folders that are left out
+
+all_there : (p : ℕ) (fs : List (Option Found)) → first_left_out p fs ≡ None → count_there fs ≡ length fs
+all_there p [] e = refl
+all_there p (None ∷ fs) e = absurd cc
+all_there p (Some f ∷ fs) e = ap (λ (k : ℕ). suc k) (all_there (p + 1) fs e)
+
+may_leave : (n formatted count : ℕ) → leave_fault n formatted count ≡ None → (formatted + 1 ≡ 2 ^ n) × (n < 2 * count)
+may_leave n formatted count e =
+    let all = passed (eqb (formatted + 1) (2 ^ n)) (cond (ltb n (2 * count)) None (Some LeftOut)) Unfounded e in
+    let most = passed (ltb n (2 * count)) None LeftOut all.1 in
+    (eqb-true (formatted + 1) (2 ^ n) all.0, ltb-true n (2 * count) most.0)
+
+no_fault : (p : ℕ) (x : Option Fault) → left_out_with (Some p) x ≡ None → x ≡ None
+no_fault p None e = refl
+no_fault p (Some x) e = absurd cc
+
+served : (n formatted : ℕ) (fs : List (Option Found)) (x : Option ℕ) → 1 ≤ n → length fs ≡ n → first_left_out 0 fs ≡ x
+    → left_out_with x (leave_fault n formatted (count_there fs)) ≡ None → IsServed n formatted fs
+served n formatted fs None some long is e =
+    let count : count_there fs ≡ n = all_there 0 fs is ∙ long in
+    record {
+      majority = omega (arith, some, count);
+      all = λ p other. absurd (let no : None ≡ Some p = sym is ∙ other in cc);
+    }
+served n formatted fs (Some q) some long is e =
+    let both = may_leave n formatted (count_there fs) (no_fault q (leave_fault n formatted (count_there fs)) e) in
+    record { majority = both.1; all = λ p other. both.0 }
+
 -- ---- the verdict
 
-guards_open : (n : ℕ) (c : Cluster) (fs : List Found) (x : Option (ℕ × Fault)) → c.nodes ≡ n → first_fault c.identity n (Some c.formatted) 0 fs ≡ x → Guards n (Some c) fs (refused_or x (Open c))
-guards_open n c fs (Some x) same is = tt
-guards_open n c fs None same is =
+guards_open : (n : ℕ) (c : Cluster) (fs : List (Option Found)) (x : Option (ℕ × Fault)) → c.nodes ≡ n → IsServed n c.formatted fs
+    → first_fault c.identity n (Some c.formatted) 0 fs ≡ x → Guards n (Some c) fs (refused_or x (Open c))
+guards_open n c fs (Some x) same serves is = tt
+guards_open n c fs None same serves is =
     let none : first_fault c.identity c.nodes (Some c.formatted) 0 fs ≡ None = subst (λ (k : ℕ). first_fault c.identity k (Some c.formatted) 0 fs ≡ None) (sym same) is in
-    (refl, same, each_of (KeepsItsDisk c) c.identity c.nodes (Some c.formatted) (keeps c) 0 fs none)
+    (refl, same, serves, each_of (KeepsItsDisk c) c.identity c.nodes (Some c.formatted) (keeps c) 0 fs none)
 
-guards_file : (n : ℕ) (c : Cluster) (fs : List Found) (b : Bool) → eqb c.nodes n ≡ b → Guards n (Some c) fs (cond b (refused_or (first_fault c.identity n (Some c.formatted) 0 fs) (Open c)) (Refused 0 (OtherNodes c.nodes)))
-guards_file n c fs true same = guards_open n c fs (first_fault c.identity n (Some c.formatted) 0 fs) (eqb-true c.nodes n same) refl
-guards_file n c fs false other = tt
+guards_left : (n : ℕ) (c : Cluster) (fs : List (Option Found)) (x : Option (ℕ × Fault)) → 1 ≤ n → length fs ≡ n → c.nodes ≡ n
+    → left_out_with (first_left_out 0 fs) (leave_fault n c.formatted (count_there fs)) ≡ x → Guards n (Some c) fs (refused_or x (verdict_by_nodes n c fs))
+guards_left n c fs (Some x) some long same is = tt
+guards_left n c fs None some long same is =
+    guards_open n c fs (first_fault c.identity n (Some c.formatted) 0 fs) same (served n c.formatted fs (first_left_out 0 fs) some long refl is) refl
 
-guards_taken : (n : ℕ) (i : Identity) (named : Option Identity) (fs : List Found) (x : Option (ℕ × Fault)) → first_fault i n None 0 fs ≡ x → Guards n None fs (refused_or x (TakeOn named))
-guards_taken n i named fs (Some x) is = tt
-guards_taken n i named fs None is = each_of (λ p f. HasDisk n p f × KeepsItsMark f) i n None (has i n) 0 fs is
+guards_file : (n : ℕ) (c : Cluster) (fs : List (Option Found)) (b : Bool) → 1 ≤ n → length fs ≡ n → eqb c.nodes n ≡ b
+    → Guards n (Some c) fs (cond b (refused_or (left_out_with (first_left_out 0 fs) (leave_fault n c.formatted (count_there fs))) (verdict_by_nodes n c fs)) (Refused (first_there 0 fs) (OtherNodes c.nodes)))
+guards_file n c fs true some long same =
+    guards_left n c fs (left_out_with (first_left_out 0 fs) (leave_fault n c.formatted (count_there fs))) some long (eqb-true c.nodes n same) refl
+guards_file n c fs false some long other = tt
 
-guards_folders : (n : ℕ) (fs : List Found) (b : Bool) → list_all is_fresh fs ≡ b
+guards_taken : (n : ℕ) (i : Identity) (named : Option Identity) (fs : List (Option Found)) (x : Option (ℕ × Fault)) → first_left_out 0 fs ≡ None
+    → first_fault i n None 0 fs ≡ x → Guards n None fs (refused_or x (TakeOn named))
+guards_taken n i named fs (Some x) whole is = tt
+guards_taken n i named fs None whole is = (whole, each_of (λ p f. HasDisk n p f × KeepsItsMark f) i n None (has i n) 0 fs is)
+
+guards_all : (n : ℕ) (fs : List (Option Found)) (b : Bool) → first_left_out 0 fs ≡ None → list_all is_fresh_at fs ≡ b
     → Guards n None fs (cond b Begin (refused_or (first_fault (identity_or (first_identity fs)) n None 0 fs) (TakeOn (first_identity fs))))
-guards_folders n fs true all = fresh_each 0 fs all
-guards_folders n fs false some = guards_taken n (identity_or (first_identity fs)) (first_identity fs) fs (first_fault (identity_or (first_identity fs)) n None 0 fs) refl
+guards_all n fs true whole all = (whole, fresh_each 0 fs all)
+guards_all n fs false whole some =
+    guards_taken n (identity_or (first_identity fs)) (first_identity fs) fs (first_fault (identity_or (first_identity fs)) n None 0 fs) whole refl
 
-guards_of : (n : ℕ) (file : Option Cluster) (fs : List Found) → Guards n file fs (verdict_of n file fs)
-guards_of n (Some c) fs = guards_file n c fs (eqb c.nodes n) refl
-guards_of n None fs = guards_folders n fs (list_all is_fresh fs) refl
+guards_folders : (n : ℕ) (fs : List (Option Found)) (x : Option ℕ) → first_left_out 0 fs ≡ x
+    → Guards n None fs (refused_or (left_out_with x (Some Unfounded)) (verdict_by_all n fs))
+guards_folders n fs (Some p) is = tt
+guards_folders n fs None is = guards_all n fs (list_all is_fresh_at fs) is refl
 
-pub verdict_guards : (n : ℕ) (file : Option Cluster) (fs : List Found) (v : Verdict) → v ≡ verdict_of n file fs → Guards n file fs v
-verdict_guards n file fs v is = subst (λ (w : Verdict). Guards n file fs w) (sym is) (guards_of n file fs)
+guards_of : (n : ℕ) (file : Option Cluster) (fs : List (Option Found)) → 1 ≤ n → length fs ≡ n → Guards n file fs (verdict_of n file fs)
+guards_of n (Some c) fs some long = guards_file n c fs (eqb c.nodes n) some long refl
+guards_of n None fs some long = guards_folders n fs (first_left_out 0 fs) refl
+
+pub verdict_guards : (n : ℕ) (file : Option Cluster) (fs : List (Option Found)) (v : Verdict) → 1 ≤ n → length fs ≡ n → v ≡ verdict_of n file fs → Guards n file fs v
+verdict_guards n file fs v some long is = subst (λ (w : Verdict). Guards n file fs w) (sym is) (guards_of n file fs some long)
+
+-- ---- a node that starts again
+
+-- no node is in the empty set
+pub in_none : (p : ℕ) → has_member 0 p ≡ false
+in_none p = ap (λ (k : ℕ). eqb (k % 2) 1) (zero-div (2 ^ p))
+
+-- a node is in the set of it alone
+in_own : (p : ℕ) → p < 7 → has_member (with_member 0 p) p ≡ true
+in_own zero h = refl
+in_own (suc zero) h = refl
+in_own (suc (suc zero)) h = refl
+in_own (suc (suc (suc zero))) h = refl
+in_own (suc (suc (suc (suc zero)))) h = refl
+in_own (suc (suc (suc (suc (suc zero))))) h = refl
+in_own (suc (suc (suc (suc (suc (suc zero)))))) h = refl
+in_own (suc (suc (suc (suc (suc (suc (suc p))))))) h = absurd (omega (arith, h))
+
+-- a folder in which nothing is wrong, though its node has been formatted, and whose disk is as far as the node left it
+pub return_guards : (i : Identity) (n p set : ℕ) (f : Found) (left : Option Course) (reached : Option Reached) → p < 7 → set ≡ with_member 0 p
+    → fault_of i n (Some set) p f ≡ None → forgetful_fault left reached ≡ None → MayReturn i n p f left reached
+return_guards i n p set f left reached known own none far =
+    let c : Cluster = record { identity = i; nodes = n; formatted = set } in
+    let member : has_member set p ≡ true = subst (λ (s : ℕ). has_member s p ≡ true) (sym own) (in_own p known) in
+    let kept = keeps c p f none member in
+    record { disk = kept.0; mark = kept.1; keeps = kept.2; far = as_far left reached far }
+
+-- ---- lists to which a place is added
+
+-- the places at which nothing stands, one more among them or not
+pub left_out_behind : {A : Type 0} (without p : ℕ) (xs : List (Option A)) (x : Option A) → AreLeftOut without p xs → has_member without (p + length xs) ≡ is_none x
+    → AreLeftOut without p (xs ++ x ∷ [])
+left_out_behind {A} without p [] x all one =
+    let place : p + 0 ≡ p = omega arith in
+    (subst (λ (k : ℕ). has_member without k ≡ is_none x) place one, tt)
+left_out_behind {A} without p (y ∷ xs) x all one =
+    let place : p + suc (length xs) ≡ p + 1 + length xs = omega arith in
+    (all.0, left_out_behind without (p + 1) xs x all.1 (subst (λ (k : ℕ). has_member without k ≡ is_none x) place one))
+
+pub left_out_pushed : {A : Type 0} (without k : ℕ) (xs : List (Option A)) (x : Option A) → AreLeftOut without 0 xs → length xs ≡ k → has_member without k ≡ is_none x
+    → AreLeftOut without 0 (xs ++ x ∷ [])
+left_out_pushed {A} without k xs x all long one =
+    let place : k ≡ 0 + length xs = omega (arith, long) in
+    left_out_behind without 0 xs x all (subst (λ (j : ℕ). has_member without j ≡ is_none x) place one)
+
+-- the same where nothing is left out
+pub none_left_out : {A : Type 0} (xs : List (Option A)) (x : A) → AreLeftOut 0 0 xs → AreLeftOut 0 0 (xs ++ Some x ∷ [])
+none_left_out {A} xs x all = left_out_behind 0 0 xs (Some x) all (in_none (0 + length xs))
+
+map_behind : {A B : Type 0} (f : A → B) (xs : List A) (x : A) → map f (xs ++ x ∷ []) ≡ map f xs ++ f x ∷ []
+map_behind {A} {B} f [] x = refl
+map_behind {A} {B} f (y ∷ xs) x = ap (λ ys. f y ∷ ys) (map_behind f xs x)
+
+long_map : {A B : Type 0} (f : A → B) (xs : List A) → length (map f xs) ≡ length xs
+long_map {A} {B} f [] = refl
+long_map {A} {B} f (y ∷ xs) = ap (λ (k : ℕ). suc k) (long_map f xs)
+
+-- the same of homes, by their disks
+pub home_pushed : {D H : Type 0} (without k : ℕ) (hs : List (HomeState D H)) (h : HomeState D H) → AreLeftOut without 0 (map (λ g. g.disk) hs) → length hs ≡ k
+    → has_member without k ≡ is_none h.disk → AreLeftOut without 0 (map (λ g. g.disk) (hs ++ h ∷ []))
+home_pushed {D} {H} without k hs h all long one =
+    subst (λ xs. AreLeftOut without 0 xs) (sym (map_behind (λ (g : HomeState D H). g.disk) hs h))
+    (left_out_pushed without k (map (λ g. g.disk) hs) h.disk all (long_map (λ (g : HomeState D H). g.disk) hs ∙ long) one)

@@ -5,11 +5,12 @@ use Rattle.rr_folders.specs.declared.judging.Found.{Found}
 use Rattle.rr_folders.specs.declared.judging.Fault.{Fault}
 use Rattle.rr_folders.specs.declared.judging.Verdict.{Verdict}
 use Rattle.rr_folders.specs.declared.judging.Verdict.TheVariants.{Open, Begin, TakeOn, Refused}
-use Rattle.rr_folders.specs.Judging.{verdict_of}
+use Rattle.rr_folders.specs.Judging.{AreLeftOut, verdict_of}
 
--- the verdict on n folders, by what was found in a cluster's file and in each folder
-abbrev pub IsJudged : ℕ → Verdict → Type 0
-IsJudged n v = (file : Option Cluster) × (found : List Found) × (length found ≡ n) × (v ≡ verdict_of n file found)
+-- the verdict on n folders, by what was found in a cluster's file and in each folder but those that are left out, of which nothing is
+abbrev pub IsJudged : ℕ → ℕ → Verdict → Type 0
+IsJudged n without v =
+    (file : Option Cluster) × (found : List (Option Found)) × (length found ≡ n) × AreLeftOut without 0 found × (v ≡ verdict_of n file found)
 
 -- the folder that a verdict refuses, and why
 abbrev pub refused_by : Verdict → Option (ℕ × Fault)
@@ -18,6 +19,6 @@ refused_by (Open c) = None
 refused_by Begin = None
 refused_by (TakeOn i) = None
 
--- n folders are judged by a verdict that refuses none
+-- n folders are judged, none of them left out, by a verdict that refuses none
 abbrev pub MayStart : ℕ → Type 0
-MayStart n = (v : Verdict) × IsJudged n v × (refused_by v ≡ None)
+MayStart n = (v : Verdict) × IsJudged n 0 v × (refused_by v ≡ None)

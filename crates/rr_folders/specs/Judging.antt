@@ -1,7 +1,7 @@
 -- Whether the folders of a cluster may be opened, by what was found in each, from node 0 on.
-use Rattle.std.specs.Prelude.{◌≡◌, ◌⊎◌, ◌||◌, nat_lt, ℕ, ◌+◌, ◌==◌, ◌&&◌, if◌then◌else◌, Bool, true, false, List, [], ◌∷◌, Option, None, Some}
+use Rattle.std.specs.Prelude.{◌≡◌, ◌⊎◌, ◌||◌, nat_lt, ℕ, suc, ◌+◌, ◌*◌, ◌^◌, ◌<◌, ◌==◌, ◌&&◌, if◌then◌else◌, is_none, Bool, true, false, List, [], ◌∷◌, Option, None, Some}
 use Rattle.std.specs.List.{list_all}
-use Rattle.rr_types.specs.Nodes.{has_member}
+use Rattle.rr_types.specs.Nodes.{has_member, with_member}
 use Rattle.rr_folders.specs.declared.cluster.Identity.{Identity}
 use Rattle.rr_folders.specs.declared.cluster.Cluster.{Cluster}
 use Rattle.rr_folders.specs.declared.cluster.Mark.{Mark}
@@ -11,7 +11,7 @@ use Rattle.rr_folders.specs.declared.front.Content.{Content}
 use Rattle.rr_folders.specs.declared.front.Content.TheVariants as contents
 use Rattle.rr_folders.specs.declared.judging.Found.{Found}
 use Rattle.rr_folders.specs.declared.judging.Fault.{Fault}
-use Rattle.rr_folders.specs.declared.judging.Fault.TheVariants.{Missing, Blank, Cut, OtherNode, OtherNodes, OtherCluster, Unmarked, Older, Shorter, Altered, Outdated}
+use Rattle.rr_folders.specs.declared.judging.Fault.TheVariants.{Missing, Blank, Cut, OtherNode, OtherNodes, OtherCluster, Unmarked, Older, Shorter, Altered, Outdated, LeftOut, Unfounded}
 use Rattle.rr_folders.specs.declared.judging.Verdict.{Verdict}
 use Rattle.rr_folders.specs.declared.judging.Verdict.TheVariants.{Open, Begin, TakeOn, Refused}
 use Rattle.rr_folders.specs.Clusters.{same_identity, reaches, is_behind}
@@ -92,7 +92,55 @@ disk_fault (Some formatted) p f = if has_member formatted p then ((loss_fault f.
 abbrev pub fault_of : Identity → ℕ → Option ℕ → ℕ → Found → Option Fault
 fault_of i n formatted p f = (mark_fault i p f.mark or_else owner_fault n p f.content) or_else disk_fault formatted p f
 
--- ---- all folders
+-- that a disk isn't as far as its node left it: the folder is an older copy
+abbrev pub as_outdated : Option Fault → Option Fault
+as_outdated None = None
+as_outdated (Some x) = Some Outdated
+
+-- what is wrong with the folder of node p of n that starts again: what it would be at an opening, the node being formatted; or its active
+-- area, which reaches this far, isn't as far as the node left it
+abbrev pub return_fault : Identity → ℕ → ℕ → Found → Option Course → Option Reached → Option Fault
+return_fault i n p f left reached = fault_of i n (Some (with_member 0 p)) p f or_else as_outdated (forgetful_fault left reached)
+
+-- ---- all folders. At the place of a node whose folder is left out stands nothing
+
+-- the places from p on at which nothing stands are those of a set of nodes
+abbrev pub AreLeftOut : {A : Type 0} → ℕ → ℕ → List (Option A) → Type 0
+AreLeftOut without p [] = Unit {0}
+AreLeftOut without p (x ∷ xs) = (has_member without p ≡ is_none x) × AreLeftOut without (p + 1) xs
+
+-- the first node whose folder is left out, from node p on
+abbrev pub first_left_out : ℕ → List (Option Found) → Option ℕ
+first_left_out p [] = None
+first_left_out p (None ∷ fs) = Some p
+first_left_out p (Some f ∷ fs) = first_left_out (p + 1) fs
+
+-- the first node whose folder isn't, from node p on; node 0 where all are
+abbrev pub first_there : ℕ → List (Option Found) → ℕ
+first_there p [] = 0
+first_there p (None ∷ fs) = first_there (p + 1) fs
+first_there p (Some f ∷ fs) = p
+
+-- how many folders aren't left out
+abbrev pub count_there : List (Option Found) → ℕ
+count_there [] = 0
+count_there (None ∷ fs) = count_there fs
+count_there (Some f ∷ fs) = suc (count_there fs)
+
+-- what n nodes have against a start with only so many of their folders: not each has been formatted, or those are no majority
+abbrev pub leave_fault : ℕ → ℕ → ℕ → Option Fault
+leave_fault n formatted count = if formatted + 1 == 2 ^ n then (if nat_lt n (2 * count) then None else Some LeftOut) else Some Unfounded
+
+-- a fault of the first node that is left out, if one is
+abbrev pub left_out_with : Option ℕ → Option Fault → Option (ℕ × Fault)
+left_out_with None x = None
+left_out_with (Some p) None = None
+left_out_with (Some p) (Some x) = Some (p, x)
+
+-- what is wrong with the folder at the place of node p of n. One that is left out isn't looked at
+abbrev pub fault_at : Identity → ℕ → Option ℕ → ℕ → Option Found → Option Fault
+fault_at i n formatted p None = None
+fault_at i n formatted p (Some f) = fault_of i n formatted p f
 
 -- this fault of node p's folder; where there is none, another folder's
 abbrev pub at_or : ℕ → Option Fault → Option (ℕ × Fault) → Option (ℕ × Fault)
@@ -100,9 +148,9 @@ at_or p (Some x) other = Some (p, x)
 at_or p None other = other
 
 -- the first folder that has a fault, from node p on
-abbrev pub first_fault : Identity → ℕ → Option ℕ → ℕ → List Found → Option (ℕ × Fault)
+abbrev pub first_fault : Identity → ℕ → Option ℕ → ℕ → List (Option Found) → Option (ℕ × Fault)
 first_fault i n formatted p [] = None
-first_fault i n formatted p (f ∷ fs) = at_or p (fault_of i n formatted p f) (first_fault i n formatted (p + 1) fs)
+first_fault i n formatted p (f ∷ fs) = at_or p (fault_at i n formatted p f) (first_fault i n formatted (p + 1) fs)
 
 -- a refusal for that folder; where there is none, this verdict
 abbrev pub refused_or : Option (ℕ × Fault) → Verdict → Verdict
@@ -125,44 +173,62 @@ is_unmarked (Some m) = false
 abbrev pub is_fresh : Found → Bool
 is_fresh f = is_blank f.content && is_unmarked f.mark
 
+-- whether the folder at a place is known to have neither
+abbrev pub is_fresh_at : Option Found → Bool
+is_fresh_at None = false
+is_fresh_at (Some f) = is_fresh f
+
 -- the cluster that a folder names by its mark, else another
 abbrev pub marked_or : Option Mark → Option Identity → Option Identity
 marked_or None other = other
 marked_or (Some m) other = Some m.identity
 
 -- the cluster that the first marked folder names
-abbrev pub first_identity : List Found → Option Identity
+abbrev pub first_identity : List (Option Found) → Option Identity
 first_identity [] = None
-first_identity (f ∷ fs) = marked_or f.mark (first_identity fs)
+first_identity (None ∷ fs) = first_identity fs
+first_identity (Some f ∷ fs) = marked_or f.mark (first_identity fs)
 
 -- ---- the verdict
 
--- by the cluster's file, where so many nodes are asked for
-abbrev pub verdict_by_file : ℕ → Cluster → List Found → Verdict
-verdict_by_file n c found = if c.nodes == n then refused_or (first_fault c.identity n (Some c.formatted) 0 found) (Open c) else Refused 0 (OtherNodes c.nodes)
+-- by the folders of a cluster of n nodes, with its file
+abbrev pub verdict_by_nodes : ℕ → Cluster → List (Option Found) → Verdict
+verdict_by_nodes n c found = refused_or (first_fault c.identity n (Some c.formatted) 0 found) (Open c)
+
+-- by the cluster's file, where so many nodes are asked for: folders are left out only where each node has been formatted, and a majority is
+-- there
+abbrev pub verdict_by_file : ℕ → Cluster → List (Option Found) → Verdict
+verdict_by_file n c found =
+    if c.nodes == n then refused_or (left_out_with (first_left_out 0 found) (leave_fault n c.formatted (count_there found))) (verdict_by_nodes n c found)
+    else Refused (first_there 0 found) (OtherNodes c.nodes)
 
 -- an identity, or that of no cluster
 abbrev pub identity_or : Option Identity → Identity
 identity_or None = record { first = 0; second = 0 }
 identity_or (Some i) = i
 
--- without a cluster's file: a new cluster where no folder has a disk or a mark, else one that is taken on if its folders agree
-abbrev pub verdict_by_folders : ℕ → List Found → Verdict
-verdict_by_folders n found =
-    if list_all is_fresh found then Begin
+-- by folders without a cluster's file: a new cluster where none has a disk or a mark, else one that is taken on if its folders agree
+abbrev pub verdict_by_all : ℕ → List (Option Found) → Verdict
+verdict_by_all n found =
+    if list_all is_fresh_at found then Begin
     else refused_or (first_fault (identity_or (first_identity found)) n None 0 found) (TakeOn (first_identity found))
 
+-- the same where folders may be left out: then no cluster begins, and none is taken on
+abbrev pub verdict_by_folders : ℕ → List (Option Found) → Verdict
+verdict_by_folders n found = refused_or (left_out_with (first_left_out 0 found) (Some Unfounded)) (verdict_by_all n found)
+
 -- whether so many nodes may be opened
-abbrev pub verdict_of : ℕ → Option Cluster → List Found → Verdict
+abbrev pub verdict_of : ℕ → Option Cluster → List (Option Found) → Verdict
 verdict_of n (Some c) found = verdict_by_file n c found
 verdict_of n None found = verdict_by_folders n found
 
 -- ---- what a verdict guards
 
--- a fact of each folder, from node p on
-abbrev pub Each : (ℕ → Found → Type 0) → ℕ → List Found → Type 0
+-- a fact of each folder that isn't left out, from node p on
+abbrev pub Each : (ℕ → Found → Type 0) → ℕ → List (Option Found) → Type 0
 Each P p [] = Unit {0}
-Each P p (f ∷ fs) = P p f × Each P (p + 1) fs
+Each P p (None ∷ fs) = Each P (p + 1) fs
+Each P p (Some f ∷ fs) = P p f × Each P (p + 1) fs
 
 -- a folder with the disk of node p of n
 abbrev pub HasDisk : ℕ → ℕ → Found → Type 0
@@ -201,13 +267,29 @@ KeepsItsDisk c p f = has_member c.formatted p ≡ true → HasDisk c.nodes p f �
 abbrev pub IsFresh : ℕ → Found → Type 0
 IsFresh p f = (is_blank f.content ≡ true) × (f.mark ≡ None)
 
--- what may be relied on: a cluster is opened only as what its file says; nodes are begun only where no folder has a disk or a
--- mark; and a cluster without a file is taken on only where each folder has its node's disk, as far as its mark says
-abbrev pub Guards : ℕ → Option Cluster → List Found → Verdict → Type 0
+-- a majority of n nodes is there, and where one isn't, each has been formatted
+pub record IsServed (n formatted : ℕ) (found : List (Option Found)) : Type 0 where
+  pub majority : n < 2 * count_there found
+  pub all : (p : ℕ) → first_left_out 0 found ≡ Some p → formatted + 1 ≡ 2 ^ n
+
+-- what may be relied on: a cluster is opened only as what its file says, with a majority of its nodes' folders; nodes are begun only where no
+-- folder has a disk or a mark; and a cluster without a file is taken on only where each folder has its node's disk, as far as its mark
+-- says. For these two no folder is left out
+abbrev pub Guards : ℕ → Option Cluster → List (Option Found) → Verdict → Type 0
 Guards n None found (Open d) = ⊥
-Guards n (Some c) found (Open d) = (d ≡ c) × (c.nodes ≡ n) × Each (KeepsItsDisk c) 0 found
+Guards n (Some c) found (Open d) = (d ≡ c) × (c.nodes ≡ n) × IsServed n c.formatted found × Each (KeepsItsDisk c) 0 found
 Guards n (Some c) found Begin = ⊥
-Guards n None found Begin = Each IsFresh 0 found
+Guards n None found Begin = (first_left_out 0 found ≡ None) × Each IsFresh 0 found
 Guards n (Some c) found (TakeOn i) = ⊥
-Guards n None found (TakeOn i) = Each (λ p f. HasDisk n p f × KeepsItsMark f) 0 found
+Guards n None found (TakeOn i) = (first_left_out 0 found ≡ None) × Each (λ p f. HasDisk n p f × KeepsItsMark f) 0 found
 Guards n file found (Refused p x) = Unit {0}
+
+-- ---- a node that starts again
+
+-- a node may come back to a folder: it has the node's disk and its mark, the disk is as far as the mark says, the mark as far as was noted,
+-- and the active area, which reaches this far, is as far as the node left it
+pub record MayReturn (i : Identity) (n p : ℕ) (f : Found) (left : Option Course) (reached : Option Reached) : Type 0 where
+  pub disk : HasDisk n p f
+  pub mark : IsMarked i p f
+  pub keeps : KeepsItsMark f
+  pub far : IsAsFar left reached

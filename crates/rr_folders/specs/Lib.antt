@@ -13,3 +13,4 @@ pub mod Crashed
 pub mod Exports
 pub mod Texts
 pub mod Surveys
+pub mod Returns

@@ -6,9 +6,10 @@ use Rattle.rr_folders.specs.declared.judging.Verdict.TheVariants.{Open, Begin, T
 use Rattle.rr_folders.specs.declared.closed.Closed.{Closed}
 use Rattle.rr_folders.specs.declared.closed.Closed.TheVariants as closed
 
--- for how many nodes the folders were looked through, and what is to be done with them
+-- for how many nodes the folders were looked through, which of them were left out, and what is to be done with them
 pub record Surveyed : Type 0 where
   pub nodes : ℕ
+  pub without : ℕ
   pub verdict : Verdict
 
 -- the cluster of n nodes whose disks may be opened by a verdict: the one that goes on, as it is; one of n nodes that begins or is taken on, if

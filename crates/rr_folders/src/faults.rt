@@ -5,6 +5,15 @@ use rr_types::{NodeId, Nodes};
 use std::io;
 use std::io::Write;
 
+// Ends a line with what else can be done, of a node of so many: without one of three or more a majority is left.
+fn print_without<W: Write>(err: &mut W, nodes: Nodes, node: NodeId) -> io::Result<()> {
+    if nodes.count() < 3 {
+        return writeln!(err);
+    }
+    let path = node.index();
+    writeln!(err, ", or start without it by --without {path}")
+}
+
 /// Prints why the folder of a node may not be opened, of a cluster in the folder DIR of which so many nodes are asked for: what that means
 /// and what to do. It is one line.
 ///
@@ -34,21 +43,50 @@ pub fn print_fault<W: Write>(
             err,
             "{dir}/{path}: the newest area of its disk has other bytes than its file node says, and "
         )?,
-        Fault::Outdated
-        | Fault::OtherNode(_)
-        | Fault::OtherNodes(_)
-        | Fault::OtherCluster
-        | Fault::Unmarked => {
-            return print_other(err, dir, nodes, node, fault);
-        }
+        Fault::Outdated => return print_outdated(err, dir, nodes, node),
+        Fault::LeftOut | Fault::Unfounded => return print_left_out(err, dir, nodes, node, fault),
+        Fault::OtherNode(_) | Fault::OtherNodes(_) | Fault::OtherCluster | Fault::Unmarked =>
+            return print_other(err, dir, nodes, node, fault),
     }
-    writeln!(
+    write!(
         err,
         "node {path} can't know any more what it promised; put the folder back as it was last, or go on from the others by rr export"
-    )
+    )?;
+    print_without(err, nodes, node)
 }
 
-// Prints whose folder it is, where it is another's, or of which moment.
+// Prints that it is of an earlier moment.
+fn print_outdated<W: Write>(err: &mut W, dir: &str, nodes: Nodes, node: NodeId) -> io::Result<()> {
+    let path = node.index();
+    write!(
+        err,
+        "{dir}/{path}: it is an older copy, as its file node isn't as far as {dir}/marks says; put back the folder as it was last, or all of {dir} from one backup"
+    )?;
+    print_without(err, nodes, node)
+}
+
+// Prints why it may not be left out.
+fn print_left_out<W: Write>(
+    err: &mut W,
+    dir: &str,
+    nodes: Nodes,
+    node: NodeId,
+    fault: &Fault,
+) -> io::Result<()> {
+    let (path, asked) = (node.index(), nodes.count());
+    match fault {
+        Fault::LeftOut => writeln!(
+            err,
+            "{dir}/{path}: it is left out, and more than half of {asked} nodes have to be there; leave out fewer"
+        ),
+        _ => writeln!(
+            err,
+            "{dir}/{path}: it is left out, and there is no cluster in {dir} yet that could do without it; start all {asked} nodes first"
+        ),
+    }
+}
+
+// Prints whose folder it is, where it is another's.
 fn print_other<W: Write>(
     err: &mut W,
     dir: &str,
@@ -72,10 +110,6 @@ fn print_other<W: Write>(
                 "{dir}: its cluster has another number of nodes than {asked}; ask for --nodes {others}"
             )
         }
-        Fault::Outdated => writeln!(
-            err,
-            "{dir}/{path}: it is an older copy, as its file node isn't as far as {dir}/marks says; put back the folder as it was last, or all of {dir} from one backup"
-        ),
         Fault::OtherCluster => writeln!(
             err,
             "{dir}/{path}: it is a folder of another cluster; put that of this one back"

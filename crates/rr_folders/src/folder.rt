@@ -1,25 +1,29 @@
 //! The folders of a cluster, found and opened.
 
-ghost use Rattle.std.specs.Prelude.{◌≡◌, ◌⊎◌, length, Contains, IsOk, IfOk, IfErr};
+ghost use Rattle.std.specs.Prelude.{◌≡◌, ◌⊎◌, length, map, not, is_none, Contains, IsOk, IfOk, IfErr};
 ghost use Rattle.rr_types.specs.declared.refusal.Refusal.TheVariants.{Device, OutOfMemory};
+ghost use Rattle.rr_types.specs.Nodes.{has_member};
+ghost use Rattle.rr_folders.specs.Judging.{AreLeftOut};
 ghost use Rattle.rr_folders.specs.Judged.{IsJudged};
 ghost use Rattle.rr_folders.specs.Surveys.{IsPrepared, MayBeOpened};
 
 use crate::closed::{Closed, done};
-use crate::cluster::Cluster;
-use crate::forming::{are_formatted, begin, conclude, open_disks, take_on, tidy};
+use crate::cluster::{Cluster, Mark};
+use crate::folder_home::FolderHome;
+use crate::forming::{are_formatted, begin, conclude, open_homes, take_on, tidy};
 use crate::front::Content;
-use crate::judging::{Verdict, judge};
+use crate::home::HomeDisk;
+use crate::judging::{Found, Verdict, judge};
 use crate::lock::{Lockable, Locks};
 use crate::mark_file::{FolderMark, MarkWriter};
 use crate::marked::MarkedDisk;
-use crate::noted::{note_marks, noted_in, noted_of};
+use crate::noted::{note_all, noted_in, noted_of};
 use crate::plain::see_requests;
-use crate::reason::{Reason, Reasons, ToldFile};
+use crate::reason::{Reason, Reasons, ToldFile, shared};
 use crate::seen::{Seen, cluster_in, is_there, look_at, look_over};
 use crate::tip::Tip;
 use rr_disk::{Area, FileDisk, OpenedFile, make_folder};
-use rr_types::{Nodes, Refusal};
+use rr_types::{NodeId, NodeSet, Nodes, Refusal};
 use std::alloc::Global;
 use std::fs;
 use std::fs::OpenFile;
@@ -35,25 +39,30 @@ pub type NodeDisk<'x, F, R> = MarkedDisk<NodeFiles<F>, FolderMark<'x, R>>;
 /// The two files in a node's folder. Why a call on them failed is noted.
 pub type NodeFiles<F> = FileDisk<ToldFile<OpenedFile<F>>>;
 
-/// The folders of a cluster: DIR and those in it, locked while `locks` is there, and the disks in them, ascending. `reasons` has why a
-/// disk failed, once one has.
+/// The same at home: while it isn't open, as that of a node that is left out, its calls fail. `reopen` opens it again.
+pub type NodeHome<'x, F, R> = HomeDisk<NodeDisk<'x, F, R>, FolderHome<'x, F, R>>;
+
+/// The folders of a cluster: DIR, locked while `locks` is there, and the disks of its nodes, ascending, each of which holds the lock of its
+/// folder. `reasons` has why a disk failed or isn't opened again, once one has.
 #[derive(Drop)]
 pub struct Folders<
     'x,
     F: Read + Write + Seek + FileExt + OpenFile + Drop,
-    R: Files<File = F> + AllocGlobal + MarkWriter,
+    R: Files<File = F> + AllocGlobal + MarkWriter<Handle = F>,
 > {
     pub locks: Locks<F>,
-    pub disks: Vec<NodeDisk<'x, F, R>>,
+    pub disks: Vec<NodeHome<'x, F, R>>,
     pub reasons: Reasons,
 }
 
-/// What was found in the folder DIR, which is locked while this is there. Contracts see for how many nodes it was looked through, and
-/// what is to be done with it.
+/// What was found in the folder DIR, which is locked while this is there. Contracts see for how many nodes it was looked through, which of
+/// them are left out, and what is to be done with it.
 #[derive(Drop)]
 pub struct Survey<F> {
     pub(crate) locks: Locks<F>,
-    pub(crate) seen: Vec<Seen>,
+    // the nodes that are left out, and what was seen of the folders of the others
+    pub(crate) without: NodeSet,
+    pub(crate) seen: Vec<Option<Seen>>,
     // what is known of each folder's active area
     pub(crate) known: Vec<Option<Tip>>,
     pub(crate) has_cluster_file: bool,
@@ -68,18 +77,30 @@ impl<F> Model for Survey<F> {
 
     ghost Value = { Surveyed };
 
-    ghost view = { λ s. record { nodes = length s.seen.items; verdict = s.verdict } };
+    ghost view = { λ s. record { nodes = length s.seen.items; without = s.without; verdict = s.verdict } };
 }
 
 impl<F> Survey<F> {
-    /// Whether no node has a disk that is formatted. A damaged one is.
+    /// Whether no node has a disk that is formatted. A damaged one is, and so may be one that is left out.
     pub fn is_fresh(&self) -> bool {
-        self.seen.iter().all(|seen| matches!(seen.found.content, Content::Absent | Content::Blank))
+        self.seen.iter().all(|seen| match seen {
+            Some(seen) => matches!(seen.found.content, Content::Absent | Content::Blank),
+            None => false,
+        })
     }
+
+    /// The nodes that are left out: their folders are neither locked nor looked at.
+    pub fn without(&self) -> NodeSet
+        ensures { result ≡ self.now.without }
+    {
+        self.without
+    }
+
     // The locks alone.
     fn into_locks(self) -> Locks<F> {
         let Survey {
             locks,
+            without: _,
             seen: _,
             known: _,
             has_cluster_file: _,
@@ -131,27 +152,71 @@ pub(crate) fn remove_made<R: Files>(rt: &R, dir: &str, made: Option<usize>) {
     }
 }
 
-// Locks DIR and the folders in it that are there, and looks at all.
+// What was found of a folder, as it is judged.
+fn found_of(seen: Option<Seen>) -> Option<Found>
+    ensures { is_none result ≡ is_none seen }
+{
+    match seen {
+        Some(seen) => Some(seen.found),
+        None => None,
+    }
+}
+
+// Locks the folder of a node if it is there, and looks at it, unless it is left out.
+fn look_in_node<
+    F: Read + Write + Seek + FileExt + OpenFile + Drop + Lockable,
+    R: Files<File = F> + AllocGlobal,
+>(
+    rt: &R,
+    locks: &mut Locks<F>,
+    dir: &str,
+    node: NodeId,
+    without: NodeSet,
+    noted: Option<Mark>,
+) -> Result<(Option<Seen>, Option<Tip>), Closed>
+    ensures { IfOk result (λ look. has_member without node ≡ is_none look.0) }
+{
+    if without.contains(node) {
+        return Ok((None, None));
+    }
+    let index = node.index();
+    let path = format!(in rt.alloc(); "{dir}/{index}")?;
+    if is_there(rt, path.as_str())? {
+        locks.add(rt, path.as_str())?;
+    }
+    let (mut seen, tip) = look_at(rt, locks, path.as_str())?;
+    seen.found.noted = noted;
+    Ok((Some(seen), tip))
+}
+
+// Locks DIR and the folders in it that are there, but not those that are left out, and looks at all of these.
+#[tactic(auto, using(crate::proofs::Guarding::left_out_pushed))]
 fn look_in<
     F: Read + Write + Seek + FileExt + OpenFile + Drop + Lockable,
     R: Files<File = F> + AllocGlobal,
->(rt: &R, nodes: Nodes, dir: &str, made: Option<usize>) -> Result<Survey<F>, Closed>
+>(
+    rt: &R,
+    nodes: Nodes,
+    dir: &str,
+    without: NodeSet,
+    made: Option<usize>,
+) -> Result<Survey<F>, Closed>
     ensures nodes { IfOk result (λ s. s.nodes ≡ nodes) }
-    ensures judged { IfOk result (λ s. IsJudged nodes s.verdict) }
+    ensures without { IfOk result (λ s. s.without ≡ without) }
+    ensures judged { IfOk result (λ s. IsJudged nodes without s.verdict) }
 {
     let mut locks = Locks::on(rt, dir)?;
     let mut seen = Vec::new(rt.alloc());
     let mut known = Vec::new(rt.alloc());
     let mut found = Vec::new(rt.alloc());
     let noted = noted_in(rt, dir)?;
-    for node in 0..nodes.count() {
-        let path = format!(in rt.alloc(); "{dir}/{node}")?;
-        if is_there(rt, path.as_str())? {
-            locks.add(rt, path.as_str())?;
-        }
-        let (mut look, tip) = look_at(rt, &locks, path.as_str())?;
-        look.found.noted = noted_of(noted.as_slice(), node);
-        found.push(look.found)?;
+    for index in 0..nodes.count() {
+        let Some(node) = NodeId::new(nodes, index) else {
+            unreachable!()
+        };
+        let noted = noted_of(noted.as_slice(), index);
+        let (look, tip) = look_in_node(rt, &mut locks, dir, node, without, noted)?;
+        found.push(found_of(look))?;
         seen.push(look)?;
         known.push(tip)?;
     }
@@ -161,6 +226,7 @@ fn look_in<
     let verdict = judge(nodes, cluster.as_ref(), found.as_slice());
     Ok(Survey {
         locks,
+        without,
         seen,
         known,
         has_cluster_file: is_there(rt, path.as_str())?,
@@ -169,20 +235,22 @@ fn look_in<
     })
 }
 
-/// Locks the folder DIR, which is made where it is missing, and looks at all folders of a cluster. Nothing else is made.
+/// Locks the folder DIR, which is made where it is missing, and looks at all folders of a cluster but those of the nodes that are left out:
+/// these are neither locked nor looked at. Nothing else is made.
 ///
 /// # Errors
 /// `InUse`, `Failed` or `OutOfMemory`. Then what was made is taken away.
 pub fn survey_folders<
     F: Read + Write + Seek + FileExt + OpenFile + Drop + Lockable,
     R: Files<File = F> + AllocGlobal,
->(rt: &R, nodes: Nodes, dir: &str) -> Result<Survey<F>, Closed>
+>(rt: &R, nodes: Nodes, dir: &str, without: NodeSet) -> Result<Survey<F>, Closed>
     ensures nodes { IfOk result (λ s. s.nodes ≡ nodes) }
-    ensures judged { IfOk result (λ s. IsJudged nodes s.verdict) }
+    ensures without { IfOk result (λ s. s.without ≡ without) }
+    ensures judged { IfOk result (λ s. IsJudged nodes without s.verdict) }
 {
     let made = first_missing(rt, dir);
     let looked = match done(rt, dir, "making the folder", make_folder(rt, dir)) {
-        Ok(()) => look_in(rt, nodes, dir, made),
+        Ok(()) => look_in(rt, nodes, dir, without, made),
         Err(closed) => Err(closed),
     };
     if looked.is_err() {
@@ -191,17 +259,18 @@ pub fn survey_folders<
     looked
 }
 
-/// What would be done with the folders of a cluster in the folder DIR. Nothing is locked, made or written, so another program may change
+/// What would be done with the folders of a cluster in the folder DIR, none of them left out. Nothing is locked, made or written, so another program may change
 /// them meanwhile.
 ///
 /// # Errors
 /// `Failed`, `OutOfMemory`.
+#[tactic(auto, using(crate::proofs::Guarding::none_left_out))]
 pub fn judge_folders<R: Files + AllocGlobal>(
     rt: &R,
     nodes: Nodes,
     dir: &str,
 ) -> Result<Verdict, Closed>
-    ensures { IfOk result (IsJudged nodes) }
+    ensures { IfOk result (IsJudged nodes 0) }
 {
     let mut found = Vec::new(rt.alloc());
     let noted = noted_in(rt, dir)?;
@@ -209,7 +278,7 @@ pub fn judge_folders<R: Files + AllocGlobal>(
         let path = format!(in rt.alloc(); "{dir}/{node}")?;
         let (mut look, _) = look_over(rt, path.as_str())?;
         look.found.noted = noted_of(noted.as_slice(), node);
-        found.push(look.found)?;
+        found.push(Some(look.found))?;
     }
     let cluster = cluster_in(rt, dir)?;
     Ok(judge(nodes, cluster.as_ref(), found.as_slice()))
@@ -228,10 +297,7 @@ pub(crate) fn open_files<
     ensures cause { IfErr result (λ e. (e ≡ OutOfMemory) ⊎ (e ≡ Device)) }
 {
     let (first, second) = FileDisk::open(rt, folder, make)?.into_files();
-    let other = match &reason {
-        Some(reason) => Some(Arc::try_clone(reason)?),
-        None => None,
-    };
+    let other = shared(&reason)?;
     let first = ToldFile::new(first, Area::First, reason);
     let second = ToldFile::new(second, Area::Second, other);
     FileDisk::over(first, second)
@@ -295,14 +361,55 @@ fn prepare<F, R: Files<File = F> + AllocGlobal>(
     }
 }
 
+// The same. Where there is none, folders that were made for DIR are taken away.
+fn prepare_or_remove<F, R: Files<File = F> + AllocGlobal>(
+    rt: &R,
+    nodes: Nodes,
+    dir: &str,
+    survey: &Survey<F>,
+) -> Result<Cluster, Closed>
+    ensures { IsPrepared nodes survey.now.verdict result }
+{
+    let prepared = prepare(rt, nodes, dir, survey);
+    if prepared.is_err() {
+        remove_made(rt, dir, survey.made);
+    }
+    prepared
+}
+
 // Makes the names of new folders last, as what is written in them does.
 fn sync_names<R: Files + AllocGlobal>(rt: &R, dir: &str) -> Result<(), Closed> {
     let folder = done(rt, dir, "opening the folder", fs::open(rt, dir))?;
     done(rt, dir, "syncing the folder", folder.sync_all())
 }
 
+// Opens the disks. Where they can't be, what was made is taken away.
+fn open_or_tidy<
+    'x,
+    F: Read + Write + Seek + FileExt + OpenFile + Drop + Lockable,
+    R: Files<File = F> + AllocGlobal + MarkWriter<Handle = F>,
+>(
+    rt: &'x R,
+    nodes: Nodes,
+    dir: &str,
+    cluster: &Cluster,
+    survey: &mut Survey<F>,
+    reasons: &Reasons,
+) -> Result<Vec<NodeHome<'x, F, R>>, Closed>
+    ensures count { IfOk result (λ v. length v.items ≡ nodes) }
+    ensures left_out { IfOk result (λ v. AreLeftOut survey.old.without 0 (map (λ h. h.disk) v.items)) }
+{
+    match open_homes(rt, nodes, dir, cluster, survey, reasons) {
+        Ok(homes) => Ok(homes),
+        Err(closed) => {
+            let _ = tidy(rt, dir, survey);
+            Err(closed)
+        }
+    }
+}
+
 /// Opens the disks of folders as they were found. Nodes that haven't been formatted are, and the cluster's file says so before any
-/// serves.
+/// serves. The disks of nodes that are left out aren't opened: their folders stay as they are.
 ///
 /// # Errors
 /// `Refused`, where the folders may not be opened: nothing is written then. `Unopened`, `InUse`, `Failed` or `OutOfMemory`: what was
@@ -310,27 +417,23 @@ fn sync_names<R: Files + AllocGlobal>(rt: &R, dir: &str) -> Result<(), Closed> {
 pub fn enter<
     'x,
     F: Read + Write + Seek + FileExt + OpenFile + Drop + Lockable,
-    R: Files<File = F> + AllocGlobal + MarkWriter,
+    R: Files<File = F> + AllocGlobal + MarkWriter<Handle = F>,
 >(rt: &'x R, nodes: Nodes, dir: &str, survey: Survey<F>) -> Result<Folders<'x, F, R>, Closed>
     ensures disks { IfOk result (λ f. length f.disks.items ≡ nodes) }
+    ensures left_out { IfOk result (λ f. AreLeftOut survey.without 0 (map (λ h. h.disk) f.disks.items)) }
     ensures allowed { IsOk result → MayBeOpened survey.verdict }
 {
     let mut survey = survey;
-    let cluster = prepare(rt, nodes, dir, &survey)?;
-    let reasons = Reasons::new(rt.alloc(), nodes)?;
-    let disks = match open_disks(rt, nodes, dir, &cluster, &mut survey, &reasons) {
-        Ok(disks) => disks,
-        Err(closed) => {
-            let _ = tidy(rt, dir, &survey);
-            return Err(closed);
-        }
-    };
+    let without = survey.without;
+    let cluster = prepare_or_remove(rt, nodes, dir, &survey)?;
+    let reasons = Reasons::new(rt.alloc(), dir, nodes)?;
+    let disks = open_or_tidy(rt, nodes, dir, &cluster, &mut survey, &reasons)?;
     if !are_formatted(&cluster) {
         let _ = conclude(rt, dir, &cluster, &survey)?;
     }
     sync_names(rt, dir)?;
     // (where they can't be noted, what was noted before holds on)
-    let _ = note_marks(rt, dir, nodes);
+    let _ = note_all(rt, dir, nodes, cluster.identity, without);
     Ok(Folders {
         locks: survey.into_locks(),
         disks,
@@ -338,17 +441,19 @@ pub fn enter<
     })
 }
 
-/// Opens the folders of a cluster in the folder DIR. What is missing is made where a new cluster begins.
+/// Opens the folders of a cluster in the folder DIR, but those of the nodes that are left out. What is missing is made where a new cluster
+/// begins.
 ///
 /// # Errors
 /// Those of `survey_folders` and of `enter`.
 pub fn open_folders<
     'x,
     F: Read + Write + Seek + FileExt + OpenFile + Drop + Lockable,
-    R: Files<File = F> + AllocGlobal + MarkWriter,
->(rt: &'x R, nodes: Nodes, dir: &str) -> Result<Folders<'x, F, R>, Closed>
-    ensures { IfOk result (λ f. length f.disks.items ≡ nodes) }
+    R: Files<File = F> + AllocGlobal + MarkWriter<Handle = F>,
+>(rt: &'x R, nodes: Nodes, dir: &str, without: NodeSet) -> Result<Folders<'x, F, R>, Closed>
+    ensures disks { IfOk result (λ f. length f.disks.items ≡ nodes) }
+    ensures left_out { IfOk result (λ f. AreLeftOut without 0 (map (λ h. h.disk) f.disks.items)) }
 {
-    let survey = survey_folders(rt, nodes, dir)?;
+    let survey = survey_folders(rt, nodes, dir, without)?;
     enter(rt, nodes, dir, survey)
 }

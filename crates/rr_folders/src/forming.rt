@@ -1,18 +1,23 @@
 //! What is written when a cluster begins: its file, the folders of its nodes with a file each, and their disks, formatted. The
 //! cluster's file says that nodes have been formatted after they have, and before they answer anybody.
 
-ghost use Rattle.std.specs.Prelude.{◌≡◌, ◌<◌, length, IfOk};
+ghost use Rattle.std.specs.Prelude.{◌≡◌, ◌<◌, length, map, is_none, IfOk};
+ghost use Rattle.rr_types.specs.Nodes.{has_member};
+ghost use Rattle.rr_folders.specs.Judging.{AreLeftOut};
 
 use crate::closed::{Closed, done, failed};
 use crate::cluster::{Cluster, Course, Identity, Mark};
-use crate::folder::{NodeDisk, NodeFiles, Survey, open_files, remove_made};
+use crate::folder::{NodeDisk, NodeFiles, NodeHome, Survey, open_files, remove_made};
+use crate::folder_home::FolderHome;
 use crate::front::AreaFront;
+use crate::home::HomeDisk;
 use crate::lock::{Lockable, Locks};
 use crate::mark_file::{FolderMark, MarkWriter};
 use crate::marked::MarkedDisk;
 use crate::noted::Noter;
 use crate::plain::make_fresh;
-use crate::reason::Reasons;
+use crate::reason::{Reason, Reasons, shared};
+use crate::returning::{Site, folder_id};
 use crate::seen::{Seen, course_of, is_there};
 use crate::tip::Tip;
 use rr_disk::make_folder;
@@ -124,8 +129,8 @@ fn write_cluster<R: Files + AllocGlobal>(
     put_in_place(rt, dir, fresh.as_str(), path.as_str())
 }
 
-// What a failed write or opening of a disk in a folder comes from, as far as the system tells it when it is tried again.
-fn unopened<R: Files + AllocGlobal>(
+/// What a failed write or opening of a disk in a folder comes from, as far as the system tells it when it is tried again.
+pub(crate) fn unopened<R: Files + AllocGlobal>(
     rt: &R,
     folder: &str,
     node: NodeId,
@@ -227,8 +232,8 @@ fn form_folder<
 // How far a node's mark says that its disk came, and what is known of that.
 fn course_in<F>(survey: &mut Survey<F>, index: u8) -> (Option<Course>, Option<Tip>) {
     let course = match survey.seen.get(usize::from(index)) {
-        Some(seen) => course_of(seen.found.mark),
-        None => None,
+        Some(Some(seen)) => course_of(seen.found.mark),
+        _ => None,
     };
     let known = match survey.known.get_mut(usize::from(index)) {
         Some(known) => known.take(),
@@ -237,11 +242,11 @@ fn course_in<F>(survey: &mut Survey<F>, index: u8) -> (Option<Course>, Option<Ti
     (course, known)
 }
 
-// Opens the disk of a node. One that hasn't been formatted is.
-fn open_node<
+// Opens the disk in the folder of a node. One that hasn't been formatted is.
+fn open_disk<
     'x,
     F: Read + Write + Seek + FileExt + OpenFile + Drop + Lockable,
-    R: Files<File = F> + AllocGlobal + MarkWriter,
+    R: Files<File = F> + AllocGlobal + MarkWriter<Handle = F>,
 >(
     rt: &'x R,
     nodes: Nodes,
@@ -249,8 +254,7 @@ fn open_node<
     cluster: &Cluster,
     node: NodeId,
     survey: &mut Survey<F>,
-    noter: Arc<Noter, Global>,
-    reasons: &Reasons,
+    reason: Option<Arc<Reason, Global>>,
 ) -> Result<NodeDisk<'x, F, R>, Closed>
     requires { node < nodes }
 {
@@ -258,7 +262,7 @@ fn open_node<
     let folder = format!(in rt.alloc(); "{dir}/{index}")?;
     let is_formatted = cluster.formatted.contains(node);
     if !is_formatted {
-        if let Some(seen) = survey.seen.get(usize::from(index)) {
+        if let Some(Some(seen)) = survey.seen.get(usize::from(index)) {
             let seen = *seen;
             form_folder(rt, dir, cluster.identity, node, &seen, &mut survey.locks)?;
         }
@@ -269,9 +273,9 @@ fn open_node<
         folder.as_str(),
         cluster.identity,
         node,
-        Some(noter),
+        shared(&reason)?,
     )?;
-    match open_files(rt, folder.as_str(), true, reasons.of(index)?) {
+    match open_files(rt, folder.as_str(), true, reason) {
         Ok(disk) if is_formatted => {
             let (course, known) = course_in(survey, index);
             Ok(MarkedDisk::new(disk, keeper, course, known))
@@ -284,11 +288,42 @@ fn open_node<
     }
 }
 
-/// Opens the disks of a cluster's nodes, ascending. Those that haven't been formatted are.
-pub(crate) fn open_disks<
+// Opens the disk of a node at its home. Of one that is left out nothing is opened.
+fn open_home<
     'x,
     F: Read + Write + Seek + FileExt + OpenFile + Drop + Lockable,
-    R: Files<File = F> + AllocGlobal + MarkWriter,
+    R: Files<File = F> + AllocGlobal + MarkWriter<Handle = F>,
+>(
+    rt: &'x R,
+    nodes: Nodes,
+    dir: &str,
+    cluster: &Cluster,
+    node: NodeId,
+    without: NodeSet,
+    survey: &mut Survey<F>,
+    mut home: FolderHome<'x, F, R>,
+) -> Result<NodeHome<'x, F, R>, Closed>
+    requires { node < nodes }
+    ensures { IfOk result (λ home. has_member without node ≡ is_none home.disk) }
+{
+    if without.contains(node) {
+        return Ok(HomeDisk::new(home, None));
+    }
+    let reason = home.reason()?;
+    let disk = open_disk(rt, nodes, dir, cluster, node, survey, reason)?;
+    let folder = home.folder();
+    let lock = survey.locks.give(folder);
+    let id = folder_id(rt, folder);
+    home.hold(lock, id);
+    Ok(HomeDisk::new(home, Some(disk)))
+}
+
+/// Opens the disks of a cluster's nodes, ascending, but of those that are left out. Those that haven't been formatted are.
+#[tactic(auto, using(crate::proofs::Guarding::home_pushed))]
+pub(crate) fn open_homes<
+    'x,
+    F: Read + Write + Seek + FileExt + OpenFile + Drop + Lockable,
+    R: Files<File = F> + AllocGlobal + MarkWriter<Handle = F>,
 >(
     rt: &'x R,
     nodes: Nodes,
@@ -296,19 +331,23 @@ pub(crate) fn open_disks<
     cluster: &Cluster,
     survey: &mut Survey<F>,
     reasons: &Reasons,
-) -> Result<Vec<NodeDisk<'x, F, R>>, Closed>
-    ensures { IfOk result (λ v. length v.items ≡ nodes) }
+) -> Result<Vec<NodeHome<'x, F, R>>, Closed>
+    ensures count { IfOk result (λ v. length v.items ≡ nodes) }
+    ensures left_out { IfOk result (λ v. AreLeftOut survey.old.without 0 (map (λ h. h.disk) v.items)) }
 {
+    let without = survey.without();
     let noter = Arc::new(rt.alloc(), Noter::new(rt, dir, nodes)?)?;
-    let mut disks = Vec::new(rt.alloc());
+    let mut homes = Vec::new(rt.alloc());
     for index in 0..nodes.count() {
         let Some(node) = NodeId::new(nodes, index) else {
             unreachable!()
         };
-        let noter = Arc::try_clone(&noter)?;
-        disks.push(open_node(rt, nodes, dir, cluster, node, survey, noter, reasons)?)?;
+        let site = Site::new(rt.alloc(), nodes, dir, cluster.identity, node)?;
+        let reason = reasons.of(index)?;
+        let home = FolderHome::new(rt.alloc(), rt, site, reason, Arc::try_clone(&noter)?);
+        homes.push(open_home(rt, nodes, dir, cluster, node, without, survey, home)?)?;
     }
-    Ok(disks)
+    Ok(homes)
 }
 
 // Marks the folders of a cluster that have no mark.
@@ -320,7 +359,7 @@ fn mark_nodes<F, R: Files<File = F> + AllocGlobal>(
 ) -> Result<(), Closed> {
     for (index, seen) in survey.seen.iter().enumerate() {
         if index < 7 {
-            if let Some(node) = NodeId::new(cluster.nodes, index as u8) {
+            if let (Some(node), Some(seen)) = (NodeId::new(cluster.nodes, index as u8), seen) {
                 write_mark(rt, dir, node, cluster.identity, seen)?;
             }
         }
@@ -362,8 +401,10 @@ pub(crate) fn tidy<F, R: Files<File = F> + AllocGlobal>(
 ) -> Result<(), Closed> {
     let mut is_marked = false;
     for (index, seen) in survey.seen.iter().enumerate() {
-        if tidy_node(rt, dir, index, seen)? {
-            is_marked = true;
+        if let Some(seen) = seen {
+            if tidy_node(rt, dir, index, seen)? {
+                is_marked = true;
+            }
         }
     }
     if !survey.has_cluster_file && !is_marked {

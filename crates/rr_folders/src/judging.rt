@@ -1,9 +1,9 @@
 //! Whether the folders of a cluster may be opened.
 
-ghost use Rattle.std.specs.Prelude.{◌≡◌, ◌+◌, ◌≤◌, ◌<◌, length, option_map, Option, Some, None};
+ghost use Rattle.std.specs.Prelude.{◌≡◌, ◌+◌, ◌≤◌, ◌<◌, length, option_map, is_some, Option, Some, None};
 ghost use Rattle.std.specs.List.{list_all};
 ghost use Rattle.rr_types.specs.Limits.{max_nodes};
-ghost use Rattle.rr_folders.specs.Judging.{mark_fault, owner_fault, loss_fault, course_of, lapse_of, lapse_fault, forgetful_fault, lag_fault, outdated_fault, memory_fault, disk_fault, fault_of, first_fault, is_blank, is_fresh, first_identity, verdict_by_file, verdict_by_folders, verdict_of, Guards};
+ghost use Rattle.rr_folders.specs.Judging.{mark_fault, owner_fault, loss_fault, course_of, lapse_of, lapse_fault, forgetful_fault, lag_fault, outdated_fault, memory_fault, disk_fault, fault_of, return_fault, fault_at, first_fault, is_blank, is_fresh, is_fresh_at, first_identity, first_left_out, first_there, count_there, leave_fault, verdict_by_nodes, verdict_by_file, verdict_by_all, verdict_by_folders, verdict_of, Guards, MayReturn};
 
 use crate::cluster::{Cluster, Course, Digest, Identity, Mark, Reached};
 use crate::front::Content;
@@ -45,8 +45,12 @@ pub enum Fault {
     Shorter,
     /// The active area has other bytes than the node has marked.
     Altered,
-    /// The node's mark isn't as far as it was noted to be once: the folder is an older copy.
+    /// The node's mark, or its disk, isn't as far as it was noted to be once: the folder is an older copy.
     Outdated,
+    /// The folder is left out, and those that aren't are no majority.
+    LeftOut,
+    /// The folder is left out, and no cluster's file says that each node has been formatted.
+    Unfounded,
 }
 
 /// What is to be done with folders.
@@ -190,6 +194,14 @@ fn outdated_fault(noted: Option<Mark>, mark: Option<Mark>) -> Option<Fault>
     }
 }
 
+/// Whether a mark is behind one of the same cluster that was noted before.
+pub(crate) fn is_outdated(noted: Mark, mark: Mark) -> bool
+    ensures { result ≡ is_some (outdated_fault (Some noted) (Some mark)) }
+{
+    made_of!(Mark, Course, Reached, Digest, Identity);
+    outdated_fault(Some(noted), Some(mark)).is_some()
+}
+
 // That a node forgot something.
 fn memory_fault(found: &Found) -> Option<Fault>
     ensures { result ≡ memory_fault found.now }
@@ -233,8 +245,48 @@ fn fault_of(expected: &Expected, node: NodeId, found: &Found) -> Option<Fault>
     }
 }
 
+/// What is wrong with the folder of a node of this cluster that starts again: as at an opening of the cluster, or the disk isn't as far as the
+/// node left it. It was looked at as far as that, too.
+pub(crate) fn return_fault(
+    identity: Identity,
+    nodes: Nodes,
+    node: NodeId,
+    found: &Found,
+    left: Option<Course>,
+    reached: Option<Reached>,
+) -> Option<Fault>
+    ensures fault { result ≡ return_fault identity nodes node found.now left reached }
+    // A node comes back only to its own disk, as far as it was.
+    ensures guards { result ≡ None → MayReturn identity nodes node found.now left reached }
+{
+    made_of!(Mark, Course, Reached, Digest, Identity, Found);
+    let _index = node.index();
+    let expected = Expected {
+        identity,
+        nodes,
+        formatted: Some(NodeSet::empty().with(node)),
+    };
+    match fault_of(&expected, node, found) {
+        Some(fault) => Some(fault),
+        None => match forgetful_fault(left, reached) {
+            Some(_) => Some(Fault::Outdated),
+            None => None,
+        },
+    }
+}
+
+// What is wrong with the folder at a node's place. One that is left out isn't looked at.
+fn fault_at(expected: &Expected, node: NodeId, found: &Option<Found>) -> Option<Fault>
+    ensures { result ≡ fault_at expected.now.identity expected.now.nodes expected.now.formatted node found.now }
+{
+    match found {
+        Some(found) => fault_of(expected, node, found),
+        None => None,
+    }
+}
+
 // The first folder that has a fault, from a node on.
-fn first_fault(expected: &Expected, index: u8, found: &[Found]) -> Option<(NodeId, Fault)>
+fn first_fault(expected: &Expected, index: u8, found: &[Option<Found>]) -> Option<(NodeId, Fault)>
     requires { index + length found.now ≤ max_nodes }
     ensures { result ≡ first_fault expected.now.identity expected.now.nodes expected.now.formatted index found.now }
 {
@@ -242,7 +294,7 @@ fn first_fault(expected: &Expected, index: u8, found: &[Found]) -> Option<(NodeI
         return None;
     };
     let node = NodeId::at(index)?;
-    match fault_of(expected, node, first) {
+    match fault_at(expected, node, first) {
         Some(fault) => Some((node, fault)),
         None => first_fault(expected, index + 1, rest),
     }
@@ -262,41 +314,103 @@ fn is_fresh(found: &Found) -> bool
     is_blank(found.content) && found.mark.is_none()
 }
 
+// Whether the folder at a node's place is known to have neither.
+fn is_fresh_at(found: &Option<Found>) -> bool
+    ensures { result ≡ is_fresh_at found.now }
+{
+    match found {
+        Some(found) => is_fresh(found),
+        None => false,
+    }
+}
+
 // Whether no folder has a disk or a mark.
-fn are_fresh(found: &[Found]) -> bool
-    ensures { result ≡ list_all is_fresh found.now }
+fn are_fresh(found: &[Option<Found>]) -> bool
+    ensures { result ≡ list_all is_fresh_at found.now }
 {
     match found {
         [] => true,
-        [first, rest @ ..] => is_fresh(first) && are_fresh(rest),
+        [first, rest @ ..] => is_fresh_at(first) && are_fresh(rest),
     }
 }
 
 // The cluster that the first marked folder names.
-fn first_identity(found: &[Found]) -> Option<Identity>
+fn first_identity(found: &[Option<Found>]) -> Option<Identity>
     ensures { result ≡ first_identity found.now }
 {
     match found {
         [] => None,
-        [first, rest @ ..] => match first.mark {
-            Some(mark) => Some(mark.identity),
-            None => first_identity(rest),
-        },
+        [
+            Some(
+                Found {
+                    mark: Some(mark),
+                    ..
+                },
+            ),
+            ..
+        ] => Some(mark.identity),
+        [_, rest @ ..] => first_identity(rest),
     }
 }
 
-fn by_file(nodes: Nodes, cluster: &Cluster, found: &[Found]) -> Verdict
+// The first node whose folder is left out, from a node on.
+fn first_left_out(index: u8, found: &[Option<Found>]) -> Option<NodeId>
+    requires { index + length found.now ≤ max_nodes }
+    ensures { result ≡ first_left_out index found.now }
+{
+    match found {
+        [] => None,
+        [None, ..] => NodeId::at(index),
+        [Some(_), rest @ ..] => first_left_out(index + 1, rest),
+    }
+}
+
+// The first node whose folder isn't, from a node on; node 0 where all are.
+fn first_there(index: u8, found: &[Option<Found>]) -> u8
+    requires { index + length found.now ≤ max_nodes }
+    ensures first { result ≡ first_there index found.now }
+    ensures node { result < max_nodes }
+{
+    match found {
+        [] => 0,
+        [Some(_), ..] => index,
+        [None, rest @ ..] => first_there(index + 1, rest),
+    }
+}
+
+// How many folders aren't left out.
+fn count_there(found: &[Option<Found>]) -> usize
+    ensures count { result ≡ count_there found.now }
+    ensures bound { result ≤ length found.now }
+{
+    match found {
+        [] => 0,
+        [None, rest @ ..] => count_there(rest),
+        [Some(_), rest @ ..] => 1 + count_there(rest),
+    }
+}
+
+// What so many nodes, of which these have been formatted, have against a start with so many of their folders.
+fn leave_fault(nodes: Nodes, formatted: NodeSet, count: usize) -> Option<Fault>
+    requires { count ≤ max_nodes }
+    ensures { result ≡ leave_fault nodes formatted count }
+{
+    if formatted.bits() + 1 != 1 << nodes.count() {
+        Some(Fault::Unfounded)
+    } else if usize::from(nodes.count()) < 2 * count {
+        None
+    } else {
+        Some(Fault::LeftOut)
+    }
+}
+
+// The verdict on a cluster of this file where none of its nodes is in the way.
+fn by_nodes(nodes: Nodes, cluster: &Cluster, found: &[Option<Found>]) -> Verdict
     requires { length found.now ≡ nodes }
-    ensures { result ≡ verdict_by_file nodes cluster.now found.now }
+    ensures { result ≡ verdict_by_nodes nodes cluster.now found.now }
 {
     made_of!(Cluster, Identity, Course, Reached, Digest, Found, Verdict);
     let _count = nodes.count();
-    if cluster.nodes != nodes {
-        return match NodeId::at(0) {
-            Some(node) => Verdict::Refused(node, Fault::OtherNodes(cluster.nodes)),
-            None => Verdict::Open(*cluster),
-        };
-    }
     let expected = Expected {
         identity: cluster.identity,
         nodes,
@@ -308,9 +422,30 @@ fn by_file(nodes: Nodes, cluster: &Cluster, found: &[Found]) -> Verdict
     }
 }
 
-fn by_folders(nodes: Nodes, found: &[Found]) -> Verdict
+fn by_file(nodes: Nodes, cluster: &Cluster, found: &[Option<Found>]) -> Verdict
     requires { length found.now ≡ nodes }
-    ensures { result ≡ verdict_by_folders nodes found.now }
+    ensures { result ≡ verdict_by_file nodes cluster.now found.now }
+{
+    made_of!(Cluster, Identity, Course, Reached, Digest, Found, Verdict);
+    let _count = nodes.count();
+    if cluster.nodes != nodes {
+        let Some(node) = NodeId::at(first_there(0, found)) else {
+            unreachable!()
+        };
+        return Verdict::Refused(node, Fault::OtherNodes(cluster.nodes));
+    }
+    if let Some(node) = first_left_out(0, found) {
+        if let Some(fault) = leave_fault(nodes, cluster.formatted, count_there(found)) {
+            return Verdict::Refused(node, fault);
+        }
+    }
+    by_nodes(nodes, cluster, found)
+}
+
+// The verdict on folders none of which is left out.
+fn by_all(nodes: Nodes, found: &[Option<Found>]) -> Verdict
+    requires { length found.now ≡ nodes }
+    ensures { result ≡ verdict_by_all nodes found.now }
 {
     let _count = nodes.count();
     if are_fresh(found) {
@@ -335,15 +470,27 @@ fn by_folders(nodes: Nodes, found: &[Found]) -> Verdict
     }
 }
 
+fn by_folders(nodes: Nodes, found: &[Option<Found>]) -> Verdict
+    requires { length found.now ≡ nodes }
+    ensures { result ≡ verdict_by_folders nodes found.now }
+{
+    let _count = nodes.count();
+    match first_left_out(0, found) {
+        Some(node) => Verdict::Refused(node, Fault::Unfounded),
+        None => by_all(nodes, found),
+    }
+}
+
 /// What is to be done where so many nodes are asked for: by the cluster's file, which may be missing or say nothing, and by what
-/// was found of each node's folder, from node 0 on.
+/// was found of each node's folder, from node 0 on. None: it is left out.
 #[tactic(auto, using(crate::proofs::Guarding::verdict_guards))]
-pub fn judge(nodes: Nodes, file: Option<&Cluster>, found: &[Found]) -> Verdict
+pub fn judge(nodes: Nodes, file: Option<&Cluster>, found: &[Option<Found>]) -> Verdict
     requires { length found.now ≡ nodes }
     ensures verdict { result ≡ verdict_of nodes (option_map (λ c. c.now) file.entry) found.now }
-    // No node that has been formatted is taken for a fresh one, and none begins in a folder that one has marked.
+    // No node that has been formatted is taken for a fresh one, and none begins in a folder that one has marked. A majority serves.
     ensures guards { Guards nodes (option_map (λ c. c.now) file.entry) found.now result }
 {
+    let _count = nodes.count();
     match file {
         Some(cluster) => by_file(nodes, cluster, found),
         None => by_folders(nodes, found),

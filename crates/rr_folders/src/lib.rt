@@ -15,11 +15,11 @@
 //!
 //! ```rust
 //! use rr_folders::{Closed, survey_folders};
-//! use rr_types::Nodes;
+//! use rr_types::{NodeSet, Nodes};
 //!
 //! /// Whether a cluster of these nodes would begin in a folder, which is made if it is missing. `open_folders` opens it.
 //! pub fn is_fresh(rt: &HostRuntime, nodes: Nodes, dir: &str) -> Result<bool, Closed> {
-//!     let survey = survey_folders(rt, nodes, dir)?;
+//!     let survey = survey_folders(rt, nodes, dir, NodeSet::empty())?;
 //!     Ok(survey.is_fresh())
 //! }
 //! ```
@@ -35,8 +35,10 @@ mod exporting;
 mod faults;
 mod fields;
 mod folder;
+mod folder_home;
 mod forming;
 mod front;
+mod home;
 mod judged;
 mod judging;
 mod lock;
@@ -48,9 +50,11 @@ mod plain;
 mod reading;
 mod reason;
 mod requests;
+mod returning;
 mod seen;
 mod telling;
 mod tip;
+mod trouble;
 mod verdict;
 mod verify_folder;
 
@@ -61,9 +65,12 @@ pub use exporting::export;
 pub use faults::print_fault;
 pub use fields::Form;
 pub use folder::{
-    Folders, NodeDisk, NodeFiles, Survey, enter, judge_folders, open_folders, survey_folders,
+    Folders, NodeDisk, NodeFiles, NodeHome, Survey, enter, judge_folders, open_folders,
+    survey_folders,
 };
+pub use folder_home::FolderHome;
 pub use forming::{try_dir, try_folder};
+pub use home::{Home, HomeDisk};
 pub use judged::{Judged, judge_cluster};
 pub use judging::Fault;
 pub use lock::{Lockable, Locks};

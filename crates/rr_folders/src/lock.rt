@@ -96,8 +96,11 @@ impl<F> Model for Locks<F> {
     ghost view = { λ l. string_bytes l.own.path ∷ map (λ h. string_bytes h.path) l.held.items };
 }
 
-// Locks the folder of this path.
-fn lock_at<F: Lockable + Drop, R: Files<File = F> + AllocGlobal>(
+/// Locks the folder of this path.
+///
+/// # Errors
+/// `InUse`, `Failed` or `OutOfMemory`.
+pub(crate) fn lock_at<F: Lockable + Drop, R: Files<File = F> + AllocGlobal>(
     rt: &R,
     path: &str,
 ) -> Result<Held<F>, Closed>
@@ -142,6 +145,15 @@ impl<F: Read + Write + Seek + FileExt + OpenFile + Drop> Locks<F> {
         let held = lock_at(rt, path)?;
         self.held.push(held)?;
         Ok(())
+    }
+
+    /// Gives the lock on a folder to somebody else. None: the folder isn't among those.
+    pub(crate) fn give(&mut self, path: &str) -> Option<Held<F>> {
+        let place = self
+            .held
+            .iter()
+            .position(|held| held.path.as_str() == path)?;
+        Some(self.held.remove(place))
     }
 
     /// The path of the folder DIR.

@@ -1,13 +1,16 @@
 //! The file that marks a node's folder.
 
-ghost use Rattle.std.specs.Prelude.{is_ok, Bool};
+ghost use Rattle.std.specs.Prelude.{is_ok, Bool, Option, IfOk};
 
 use crate::closed::Closed;
 use crate::cluster::{Course, Identity, Mark};
 use crate::forming::{put_in_place, write_fresh};
-use crate::noted::{Noter, note_marks};
-use rr_types::{NodeId, Nodes, Refusal};
+use crate::noted::note_marks;
+use crate::reason::Reason;
+use crate::returning::{Entered, FolderId, Site, enter_site, is_site};
+use rr_types::{NodeId, Refusal};
 use std::alloc::{AllocError, Global};
+use std::fs::File;
 use std::rt::HostRuntime;
 use std::sync::Arc;
 
@@ -26,34 +29,72 @@ pub trait MarkKeeper {
         ensures { puts self.old course (is_ok result) self.new };
 }
 
-/// Who writes marks, in the thread in which a node runs. (A trait of our own: a bound by `Files` can't be rested on in another thread.)
+/// Who writes marks and opens a node's folder again, in the thread in which the node runs. (A trait of our own: a bound by `Files` can't be
+/// rested on in another thread.)
 pub trait MarkWriter {
+    ghost use Rattle.rr_folders.specs.Returns.{IsReturn};
+
+    /// A file or folder that is open.
+    type Handle;
+
     /// Writes a mark to a new file of a folder, puts that in place of the one at the path, and makes it last.
     ///
     /// # Errors
     /// `OutOfMemory`, `Failed`; it may have been put all the same.
     fn put_mark(&self, mark: &Mark, folder: &str, fresh: &str, path: &str) -> Result<(), Closed>;
 
-    /// Notes how far the marks of so many nodes in the folder DIR say that their disks came.
+    /// Notes in the folder DIR how far the nodes' marks say that their disks came, from node 0 on: the mark in a node's folder, or where that
+    /// isn't the node's any more this one, which the node had last. None: the folder isn't looked at, and what was noted stays.
     ///
     /// # Errors
     /// `OutOfMemory`, `Failed`; they may have been noted all the same.
-    fn note(&self, dir: &str, nodes: Nodes) -> Result<(), Closed>;
+    fn note(&self, dir: &str, last: &[Option<Mark>]) -> Result<(), Closed>;
+
+    /// Whether a node's folder, which was this one, is still in its place, with the node's mark.
+    fn is_at(&self, site: &Site, id: Option<FolderId>) -> bool;
+
+    /// Locks a node's folder, looks at it, and opens its files: only if it is the node's, and its disk as far as the node left it.
+    ///
+    /// # Errors
+    /// `Refused`, where the folder may not be opened; `Unopened`, `InUse`, `Failed` or `OutOfMemory`.
+    fn enter(
+        &self,
+        site: &Site,
+        left: Option<Course>,
+        reason: Option<Arc<Reason, Global>>,
+    ) -> Result<Entered<Self::Handle>, Closed>
+        ensures { IfOk result (λ _. IsReturn site.now.identity site.now.nodes site.now.node left) };
 }
 
 impl MarkWriter for HostRuntime {
+    type Handle = File;
+
     fn put_mark(&self, mark: &Mark, folder: &str, fresh: &str, path: &str) -> Result<(), Closed> {
         let text = mark.text(self.alloc())?;
         write_fresh(self, fresh, text.as_slice())?;
         put_in_place(self, folder, fresh, path)
     }
 
-    fn note(&self, dir: &str, nodes: Nodes) -> Result<(), Closed> {
-        note_marks(self, dir, nodes)
+    fn note(&self, dir: &str, last: &[Option<Mark>]) -> Result<(), Closed> {
+        note_marks(self, dir, last)
+    }
+
+    fn is_at(&self, site: &Site, id: Option<FolderId>) -> bool {
+        is_site(self, site, id)
+    }
+
+    fn enter(
+        &self,
+        site: &Site,
+        left: Option<Course>,
+        reason: Option<Arc<Reason, Global>>,
+    ) -> Result<Entered<File>, Closed> {
+        enter_site(self, site, left, reason)
     }
 }
 
 /// The file `node` of a node's folder. No contract knows what it holds.
+#[derive(Drop)]
 pub struct FolderMark<'x, R: MarkWriter> {
     rt: &'x R,
     folder: String,
@@ -61,18 +102,18 @@ pub struct FolderMark<'x, R: MarkWriter> {
     fresh: String,
     identity: Identity,
     node: NodeId,
-    noter: Option<Arc<Noter, Global>>,
+    reason: Option<Arc<Reason, Global>>,
 }
 
 impl<'x, R: MarkWriter> FolderMark<'x, R> {
-    /// That of the folder of a node of this cluster. Where there is a noter, it is told when the disk is let go.
+    /// That of the folder of a node of this cluster. Why a mark can't be put is noted.
     pub(crate) fn new(
         alloc: Global,
         rt: &'x R,
         folder: &str,
         identity: Identity,
         node: NodeId,
-        noter: Option<Arc<Noter, Global>>,
+        reason: Option<Arc<Reason, Global>>,
     ) -> Result<FolderMark<'x, R>, AllocError> {
         Ok(FolderMark {
             rt,
@@ -81,7 +122,7 @@ impl<'x, R: MarkWriter> FolderMark<'x, R> {
             fresh: format!(in alloc; "{folder}/node.new")?,
             identity,
             node,
-            noter,
+            reason,
         })
     }
 
@@ -108,24 +149,12 @@ impl<'x, R: MarkWriter> MarkKeeper for FolderMark<'x, R> {
         match self.write(course) {
             Ok(()) => Ok(()),
             Err(Closed::OutOfMemory) => Err(Refusal::OutOfMemory),
-            Err(_) => Err(Refusal::Device),
+            Err(closed) => {
+                if let Some(reason) = &self.reason {
+                    reason.note_closed(&closed);
+                }
+                Err(Refusal::Device)
+            }
         }
-    }
-}
-
-impl<'x, R: MarkWriter> Drop for FolderMark<'x, R> {
-    fn drop(self) {
-        if let Some(noter) = &self.noter {
-            noter.let_go(self.rt);
-        }
-        let FolderMark {
-            rt: _,
-            folder: _,
-            path: _,
-            fresh: _,
-            identity: _,
-            node: _,
-            noter: _,
-        } = self;
     }
 }

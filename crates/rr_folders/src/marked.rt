@@ -5,16 +5,25 @@ ghost use Rattle.rr_types.specs.declared.refusal.Refusal.TheVariants.{Device};
 ghost use Rattle.rr_disk.specs.Crash.{restarted};
 ghost use Rattle.rr_folders.specs.Marks.{MarkedRead, MarkedWrite, MarkedSync, WasPut, opens_area};
 
-use crate::cluster::{Course, Reached};
+use crate::cluster::{Course, Digest, Identity, Reached};
 use crate::mark_file::MarkKeeper;
 use crate::tip::{OPEN, Tip, settled};
 use rr_disk::{Area, Disk};
-use rr_types::Refusal;
+use rr_types::{Refusal, made_of};
 use std::alloc::Global;
 use std::marker::Model;
 
 /// By how many bytes an area is longer than its mark says, until the mark is put anew.
 const FAR: u64 = 262_144;
+
+/// How far a disk came that was let go.
+#[derive(Clone, Copy, Debug)]
+pub(crate) struct Left {
+    /// As its mark says, if that says it and was put last.
+    pub(crate) marked: Option<Course>,
+    /// As it did, if that is known: its mark may not say so yet.
+    pub(crate) came: Option<Course>,
+}
 
 /// A disk under a journal, whose node's mark says how far its active area came. Before a switch opens the first gate of the other area,
 /// the mark names both areas; once that lasts, it names the new one, and only then the switch is over. At each opening, at the end
@@ -161,6 +170,47 @@ impl<D: Disk + Drop, K: MarkKeeper + Drop> MarkedDisk<D, K> {
                 is_at(course, tip.epoch) && tip.gate >= course.to.length.saturating_add(by)
             }
         }
+    }
+
+    // Puts the last mark of a disk that is let go.
+    fn put_last(&mut self) {
+        if !self.switching && self.is_further(1) {
+            let _ = self.put_tip();
+        }
+    }
+
+    // How far the active area came, as far as it lasts.
+    fn came(&self) -> Option<Course> {
+        match &self.tip {
+            Some(tip) if !self.switching && self.is_further(1) => match tip.reached() {
+                Ok(reached) => Some(settled(reached)),
+                Err(_) => self.course,
+            },
+            _ => self.course,
+        }
+    }
+
+    /// Lets it go. Its last mark is put where it may be, as where its folder is still in its place.
+    pub(crate) fn leave(mut self, may_mark: bool) -> Left {
+        made_of!(Course, Reached, Digest, Identity);
+        let came = self.came();
+        if may_mark {
+            self.put_last();
+        }
+        let marked = self.course;
+        let MarkedDisk {
+            below: _,
+            keeper: _,
+            course: _,
+            tip: _,
+            first: _,
+            written: _,
+            opened: _,
+            switching: _,
+            calls: _,
+            faults: _,
+        } = self;
+        Left { marked, came }
     }
 
     // Follows a write that was made.
@@ -335,9 +385,7 @@ impl<D: Disk + Drop, K: MarkKeeper + Drop> Disk for MarkedDisk<D, K> {
 
 impl<D: Disk + Drop, K: MarkKeeper + Drop> Drop for MarkedDisk<D, K> {
     fn drop(mut self) {
-        if !self.switching && self.is_further(1) {
-            let _ = self.put_tip();
-        }
+        self.put_last();
         let MarkedDisk {
             below: _,
             keeper: _,

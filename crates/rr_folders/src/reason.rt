@@ -1,167 +1,190 @@
-//! Why a disk in a node's folder failed: which call on which of its files, and what the system said. A thread that calls the disk notes it,
-//! and whoever ends the run tells it. An atomic's value is in no clause.
+//! Why a disk in a node's folder failed, or isn't opened again: which call on which of its files, and what the system said, or what is wrong
+//! with the folder. A thread that calls the disk notes it, and whoever ends the run tells it. An atomic's value is in no clause.
 
-ghost use Rattle.std.specs.Prelude.{◌≡◌, ◌≤◌, is_ok};
+ghost use Rattle.std.specs.Prelude.{◌≡◌};
 
+use crate::closed::Closed;
+use crate::faults::print_fault;
+use crate::noted::node_at;
+use crate::trouble::{Call, Spot, Trouble, code_of, error_of};
 use rr_disk::{Area, AreaFile};
 use rr_types::{NodeId, Nodes};
 use std::alloc::{AllocError, Global};
 use std::io;
-use std::io::{ErrorKind, Write};
+use std::io::Write;
 use std::sync::Arc;
 use std::sync::atomic::{AtomicU64, Ordering};
 
-/// A call on a file.
-#[derive(Clone, Copy, Debug)]
-enum FileCall {
-    Reading,
-    Writing,
-    Syncing,
-}
-
-impl FileCall {
-    // The words for it.
-    fn words(self) -> &'static str {
-        match self {
-            FileCall::Reading => "reading",
-            FileCall::Writing => "writing",
-            FileCall::Syncing => "syncing",
-        }
-    }
-
-    // Its place among them.
-    fn place(self) -> u64
-        ensures { result ≤ 2 }
-    {
-        match self {
-            FileCall::Reading => 0,
-            FileCall::Writing => 1,
-            FileCall::Syncing => 2,
-        }
-    }
-
-    // The call at a place.
-    fn at(place: u64) -> FileCall {
-        match place {
-            0 => FileCall::Reading,
-            1 => FileCall::Writing,
-            _ => FileCall::Syncing,
-        }
-    }
-}
-
-/// A call on a file that failed.
+/// What went wrong last with a node's disk, as a number. 0: nothing.
 #[derive(Drop)]
-struct Failure {
-    area: u8,
-    call: FileCall,
-    error: io::Error,
-}
-
-/// The last failed call on the files of a disk, as a number: 1 and a bit for the area, two for the call and the system's code. 0: none
-/// has failed.
-#[derive(Drop)]
-pub(crate) struct Reason {
+pub struct Reason {
     noted: AtomicU64,
 }
 
 impl Reason {
-    /// None has failed.
+    /// Nothing went wrong.
     pub(crate) fn new() -> Reason {
         Reason {
             noted: AtomicU64::new(0),
         }
     }
 
-    // Notes a call that failed.
-    fn note(&self, area: Area, call: FileCall, error: &io::Error) {
-        let code = match error.raw_os_error() {
-            Some(code) if code >= 0 => u64::from(code as u32),
-            _ => 0,
-        };
-        let area = match area {
-            Area::First => 0,
-            Area::Second => 1,
-        };
-        let number = 1 + area + 2 * call.place() + 8 * code;
-        self.noted.store(number, Ordering::SeqCst);
+    // Notes a call that failed on the file of an area.
+    fn note(&self, area: Area, call: Call, error: &io::Error) {
+        let code = code_of(error);
+        let trouble = Trouble::Area { area, call, code };
+        self.noted.store(trouble.number(), Ordering::SeqCst);
+    }
+
+    /// Notes why the folder isn't opened again; nothing where memory was refused.
+    pub(crate) fn note_closed(&self, closed: &Closed) {
+        if let Some(trouble) = Trouble::of_closed(closed) {
+            self.noted.store(trouble.number(), Ordering::SeqCst);
+        }
+    }
+
+    /// Notes that the disk is open again.
+    pub(crate) fn note_nothing(&self) {
+        self.noted.store(0, Ordering::SeqCst);
     }
 
     // What was noted.
-    fn failure(&self) -> Option<Failure> {
-        let number = self.noted.load(Ordering::SeqCst);
-        if number == 0 {
-            return None;
-        }
-        let number = number - 1;
-        let code = number / 8;
-        let error = if code == 0 || code > 65_535 {
-            io::Error::new(
-                ErrorKind::Other,
-                "the file gives or takes less than asked for",
-            )
-        } else {
-            io::Error::from_raw_os_error(code as i32)
-        };
-        Some(Failure {
-            area: (number % 2) as u8,
-            call: FileCall::at(number / 2 % 4),
-            error,
-        })
+    fn trouble(&self) -> Option<Trouble> {
+        Trouble::of_number(self.noted.load(Ordering::SeqCst))
     }
 }
 
-/// Why the disks of a cluster's nodes failed, from node 0 on.
+/// Another owner of a reason.
+pub(crate) fn shared(
+    reason: &Option<Arc<Reason, Global>>,
+) -> Result<Option<Arc<Reason, Global>>, AllocError> {
+    match reason {
+        Some(reason) => Ok(Some(Arc::try_clone(reason)?)),
+        None => Ok(None),
+    }
+}
+
+// The number of an area in the name of its file.
+fn number_of(area: Area) -> u8 {
+    match area {
+        Area::First => 0,
+        Area::Second => 1,
+    }
+}
+
+// Prints what went wrong with the disk of a node of so many in the folder DIR, in one line.
+fn print_trouble<W: Write>(
+    err: &mut W,
+    dir: &str,
+    nodes: Nodes,
+    node: NodeId,
+    trouble: &Trouble,
+) -> io::Result<()> {
+    let index = node.index();
+    match trouble {
+        Trouble::Area { area, call, code } => {
+            let (area, call, error) = (number_of(*area), call.words(), error_of(*code));
+            writeln!(err, "{dir}/{index}/a{area}: {call}: {error}")
+        }
+        Trouble::Entering { spot, call, code } => {
+            print_entering(err, dir, node, *spot, *call, &error_of(*code))
+        }
+        Trouble::InUse => writeln!(err, "{dir}/{index}: another program has locked it"),
+        Trouble::Refused(fault) => print_fault(err, dir, nodes, node, fault),
+    }
+}
+
+// Prints the call by which a node's folder was to be opened again, and what the system said.
+fn print_entering<W: Write>(
+    err: &mut W,
+    dir: &str,
+    node: NodeId,
+    spot: Spot,
+    call: Call,
+    error: &io::Error,
+) -> io::Result<()> {
+    let (index, call) = (node.index(), call.words());
+    match spot {
+        Spot::Marks => writeln!(err, "{dir}/marks: {call}: {error}"),
+        _ => {
+            let name = spot.name();
+            writeln!(err, "{dir}/{index}{name}: {call}: {error}")
+        }
+    }
+}
+
+/// Why the disks of a cluster's nodes failed or aren't opened again, from node 0 on.
 #[derive(Drop)]
 pub struct Reasons {
-    nodes: Vec<Arc<Reason, Global>>,
+    dir: String,
+    nodes: Nodes,
+    noted: Vec<Arc<Reason, Global>>,
 }
 
 impl Reasons {
-    /// For the disks of so many nodes.
-    pub(crate) fn new(alloc: Global, nodes: Nodes) -> Result<Reasons, AllocError> {
-        let mut reasons = Vec::new(alloc);
+    /// For the disks of so many nodes in the folder DIR.
+    pub(crate) fn new(alloc: Global, dir: &str, nodes: Nodes) -> Result<Reasons, AllocError> {
+        let mut noted = Vec::new(alloc);
         for _ in 0..nodes.count() {
-            reasons.push(Arc::new(alloc, Reason::new())?)?;
+            noted.push(Arc::new(alloc, Reason::new())?)?;
         }
-        Ok(Reasons { nodes: reasons })
+        Ok(Reasons {
+            dir: format!(in alloc; "{dir}")?,
+            nodes,
+            noted,
+        })
     }
 
     /// That of a node's disk.
     pub(crate) fn of(&self, index: u8) -> Result<Option<Arc<Reason, Global>>, AllocError> {
-        match self.nodes.get(usize::from(index)) {
+        match self.noted.get(usize::from(index)) {
             Some(reason) => Ok(Some(Arc::try_clone(reason)?)),
             None => Ok(None),
         }
     }
 
-    /// Why a call on the disk of a node failed last: the file, the call and the system's words. None: none has failed.
+    /// Why the disk of a node failed last, or isn't opened again, without a line feed. Of a call on an open file that is the file, the call and
+    /// the system's words; else the line that `print` prints. None: nothing went wrong since it was opened.
     ///
     /// # Errors
     /// Those of a text's memory.
     pub fn text(&self, alloc: Global, node: NodeId) -> Result<Option<String>, AllocError> {
         let index = node.index();
-        let Some(reason) = self.nodes.get(usize::from(index)) else {
+        let Some(reason) = self.noted.get(usize::from(index)) else {
             return Ok(None);
         };
-        let Some(failure) = reason.failure() else {
-            return Ok(None);
-        };
-        let Failure { area, call, error } = failure;
-        let call = call.words();
-        Ok(Some(format!(in alloc; "{index}/a{area}: {call}: {error}")?))
+        match reason.trouble() {
+            None => Ok(None),
+            Some(Trouble::Area { area, call, code }) => {
+                let (area, call, error) = (number_of(area), call.words(), error_of(code));
+                Ok(Some(format!(in alloc; "{index}/a{area}: {call}: {error}")?))
+            }
+            Some(trouble) => Ok(Some(self.line(alloc, node, &trouble)?)),
+        }
     }
 
-    /// Prints the first that was noted, in the folder DIR: the file, the call and the system's words. It is false where none was.
+    // The line on what went wrong with a node's disk, without its line feed.
+    fn line(&self, alloc: Global, node: NodeId, trouble: &Trouble) -> Result<String, AllocError> {
+        let mut line = Vec::new(alloc);
+        if print_trouble(&mut line, self.dir.as_str(), self.nodes, node, trouble).is_err() {
+            return Err(AllocError);
+        }
+        let _ = line.pop();
+        match String::from_utf8(line) {
+            Ok(line) => Ok(line),
+            Err(_) => Err(AllocError),
+        }
+    }
+
+    /// Prints the first that was noted, in the folder DIR: the file, the call and the system's words, or what is wrong with the folder. It is
+    /// false where none was.
     ///
     /// # Errors
     /// Those of the writer.
     pub fn print<W: Write>(&self, err: &mut W, dir: &str) -> io::Result<bool> {
-        for (index, reason) in self.nodes.iter().enumerate() {
-            if let Some(failure) = reason.failure() {
-                let Failure { area, call, error } = failure;
-                let call = call.words();
-                writeln!(err, "{dir}/{index}/a{area}: {call}: {error}")?;
+        for (index, reason) in self.noted.iter().enumerate() {
+            if let (Some(trouble), Some(node)) = (reason.trouble(), node_at(index)) {
+                print_trouble(err, dir, self.nodes, node, &trouble)?;
                 return Ok(true);
             }
         }
@@ -190,7 +213,7 @@ impl<F> ToldFile<F> {
     }
 
     // Notes why a call failed.
-    fn note(&self, call: FileCall, given: &io::Result<()>) {
+    fn note(&self, call: Call, given: &io::Result<()>) {
         let Err(error) = given else {
             return;
         };
@@ -205,19 +228,19 @@ impl<F: AreaFile> AreaFile for ToldFile<F> {
 
     fn read_at(&mut self, at: u64, bytes: &mut [u8]) -> io::Result<()> {
         let given = self.below.read_at(at, bytes);
-        self.note(FileCall::Reading, &given);
+        self.note(Call::Reading, &given);
         given
     }
 
     fn write_at(&mut self, at: u64, bytes: &[u8]) -> io::Result<()> {
         let given = self.below.write_at(at, bytes);
-        self.note(FileCall::Writing, &given);
+        self.note(Call::Writing, &given);
         given
     }
 
     fn sync(&mut self) -> io::Result<()> {
         let given = self.below.sync();
-        self.note(FileCall::Syncing, &given);
+        self.note(Call::Syncing, &given);
         given
     }
 

@@ -143,6 +143,39 @@ fn reached_in<R: Files + AllocGlobal>(
     }
 }
 
+// How far the active area of a folder with these areas came, looked at as far as a course says; and what is known of it then.
+fn active_in<R: Files + AllocGlobal>(
+    rt: &R,
+    folder: &str,
+    first: AreaFront,
+    second: AreaFront,
+    course: Option<Course>,
+) -> Result<(Option<Reached>, Option<Tip>), Closed> {
+    made_of!(Course, Reached, Digest);
+    let (area, name, epoch) = match active_of(first, second) {
+        Active::Neither => return Ok((None, None)),
+        Active::First(epoch) => (Area::First, "a0", epoch),
+        Active::Second(epoch) => (Area::Second, "a1", epoch),
+    };
+    let path = format!(in rt.alloc(); "{folder}/{name}")?;
+    let (reached, tip) = reached_in(rt, path.as_str(), area, epoch, course)?;
+    Ok((Some(reached), tip))
+}
+
+/// How far the active area of a folder that was looked over came, looked at as far as another course than its mark's says.
+pub(crate) fn reached_by<R: Files + AllocGlobal>(
+    rt: &R,
+    folder: &str,
+    seen: &Seen,
+    course: Option<Course>,
+) -> Result<Option<Reached>, Closed> {
+    if course.is_none() {
+        return Ok(None);
+    }
+    let (reached, _) = active_in(rt, folder, seen.first, seen.second, course)?;
+    Ok(reached)
+}
+
 /// What is found of a node's folder, while these locks are held; and what is known of its active area then.
 pub(crate) fn look_at<R: Files + AllocGlobal>(
     rt: &R,
@@ -170,18 +203,7 @@ pub(crate) fn look_over<R: Files + AllocGlobal>(
         Some(bytes) => Mark::parse(bytes.as_slice()),
         None => None,
     };
-    let course = course_of(mark);
-    let (active, tip) = match active_of(first, second) {
-        Active::Neither => (None, None),
-        Active::First(epoch) => {
-            let (reached, tip) = reached_in(rt, first_path.as_str(), Area::First, epoch, course)?;
-            (Some(reached), tip)
-        }
-        Active::Second(epoch) => {
-            let (reached, tip) = reached_in(rt, second_path.as_str(), Area::Second, epoch, course)?;
-            (Some(reached), tip)
-        }
-    };
+    let (active, tip) = active_in(rt, folder, first, second, course_of(mark))?;
     let seen = Seen {
         found: Found {
             content: content_of(first, second),

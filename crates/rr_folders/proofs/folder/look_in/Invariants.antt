@@ -1,6 +1,8 @@
 use Rattle.std.proofs.Common.{◌≡◌, ◌≤◌, length}
+use Rattle.rr_folders.specs.Judging.{AreLeftOut}
 use Rattle.rr_folders.proofs.folder.look_in.Given as goal
 
--- each node so far was looked at
-abbrev pub invariant-loop-node : goal.invariant-loop-node
-invariant-loop-node g l = (length l.found.items ≡ l.node-counter) × (length l.seen.items ≡ l.node-counter) × (l.node-counter ≤ l.node-end)
+-- each node so far was looked at, or left out
+abbrev pub invariant-loop-index : goal.invariant-loop-index
+invariant-loop-index g l =
+    (length l.found.items ≡ l.index) × (length l.seen.items ≡ l.index) × (l.index ≤ l.index-end) × AreLeftOut l.fn.without 0 l.found.items
