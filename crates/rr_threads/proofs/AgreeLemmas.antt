@@ -9,7 +9,7 @@ use Rattle.std.proofs.lemmas.List.{at_drop_more, at_drop_all}
 use Rattle.std.proofs.lemmas.Option.{slice_get_within, slice_get_cases, get_or_from_slice_get}
 use Rattle.rr_types.specs.Commands.{is_same_command}
 use Rattle.rr_types.specs.declared.command.Command.{Command}
-use Rattle.rr_threads.specs.Agreeing.{do_agree}
+use Rattle.rr_threads.specs.Agreeing.{do_agree, AgreeWithOne}
 
 -- what is left of a list at a place begins with the command there
 left_at : (F : List Command → Bool) (list : List Command) (n : ℕ) (c : Command) → slice_get list n ≡ Some c → F (drop n list) ≡ F (c ∷ drop (n + 1) list)
@@ -50,6 +50,18 @@ none_longer xs f i a b x within is grown here all =
 pub agrees_too : {X : Type 0} (xs : List X) (f : X → List Command) (whole : List Command) (i : ℕ) (x : X) → i < length xs → x ≡ get_or xs i x → do_agree (f x) whole ≡ true
     → All (λ p. do_agree (f p) whole ≡ true) (take i xs) → All (λ p. do_agree (f p) whole ≡ true) (take (i + 1) xs)
 agrees_too xs f whole i x within is here all = All-more (λ p. do_agree (f p) whole ≡ true) xs i x within all (subst (λ y. do_agree (f y) whole ≡ true) is here)
+
+-- one more list is empty
+pub empty_too : {X : Type 0} (xs : List X) (f : X → List Command) (i : ℕ) (x : X) → i < length xs → x ≡ get_or xs i x → f x ≡ []
+    → All (λ p. f p ≡ []) (take i xs) → All (λ p. f p ≡ []) (take (i + 1) xs)
+empty_too xs f i x within is here all = All-more (λ p. f p ≡ []) xs i x within all (subst (λ y. f y ≡ []) is here)
+
+-- empty lists agree with one another
+pub none_to_agree : {X : Type 0} (xs : List X) (f : X → List Command) → All (λ p. f p ≡ []) xs → AgreeWithOne f xs
+none_to_agree xs f all =
+    let short : (p : _) → f p ≡ [] → length (f p) ≤ 0 = λ p none. omega (arith, ap length none) in
+    let fits : (p : _) → f p ≡ [] → do_agree (f p) [] ≡ true = λ p none. ap (λ list. do_agree list []) none in
+    ([], All-weaker (λ p. f p ≡ []) (λ p. length (f p) ≤ 0) short xs all, All-weaker (λ p. f p ≡ []) (λ p. do_agree (f p) [] ≡ true) fits xs all)
 
 -- what holds of all that were seen holds of all, at the end
 pub of_all : {X : Type 0} (xs : List X) (P : X → Type 0) (i : ℕ) → length xs ≤ i → All P (take i xs) → All P xs

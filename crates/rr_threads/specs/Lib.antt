@@ -1,6 +1,8 @@
 pub mod Agreeing
 pub mod Asking
+pub mod Beginnings
 pub mod Belts
+pub mod Disputes
 pub mod Errands
 pub mod Fates
 pub mod Joins
@@ -11,5 +13,6 @@ pub mod Snapshotting
 pub mod Summaries
 pub mod Syncing
 pub mod Trips
+pub mod Unasked
 pub mod Ways
 pub mod Mails

@@ -10,6 +10,7 @@ ghost use Rattle.rr_types.specs.declared.command.Command.{Command};
 ghost use Rattle.rr_types.specs.declared.command.RequestNo.{RequestNo};
 ghost use Rattle.rr_types.specs.declared.refusal.Refusal.{Refusal};
 
+use crate::publishing::Published;
 use crate::shared::{Shared, Start};
 use crate::switching::Switched;
 use rr_turn::{FlusherBell, FlusherRung, Locked, PublisherBell};
@@ -319,6 +320,11 @@ impl<W: WindowName> Desk<W> {
     /// Whether a client wanted that since the last call.
     pub fn take_note(&self) -> bool {
         self.has_wanted.load(Ordering::SeqCst) && self.has_wanted.swap(false, Ordering::SeqCst)
+    }
+
+    /// The node has come up: what its disk had is published.
+    pub fn note_up<T>(&self, shared: &Shared<'_, T>, published: Published) {
+        shared.note_up(self.node, &self.start, published);
     }
 
     /// Whether the node goes down, since it is stopped or the run is over.

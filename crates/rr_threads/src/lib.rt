@@ -55,9 +55,11 @@
 #![tactic(auto)]
 
 mod agreeing;
+mod beginning;
 mod client;
 mod course;
 mod desk;
+mod disputing;
 mod failing;
 mod fate;
 mod flushing;
@@ -65,6 +67,7 @@ mod lives;
 mod node_loop;
 mod node_run;
 mod publishing;
+mod ready;
 mod recorder;
 mod rest;
 mod reused;
@@ -81,6 +84,7 @@ mod wiring;
 
 pub use client::{Client, Handle};
 pub use desk::Written;
+pub use disputing::Dispute;
 pub use fate::Fate;
 pub use recorder::Recorder;
 pub use reused::Reused;

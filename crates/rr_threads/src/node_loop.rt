@@ -84,6 +84,7 @@ pub fn run_node<W: WindowName, T: Turnstile, R: Wait + Clock>(
     let wires = Wires::new(
         rt,
         &shared.running,
+        shared.switches,
         shared.turnstile,
         shared.recorder,
         desk,
@@ -98,6 +99,7 @@ pub fn run_node<W: WindowName, T: Turnstile, R: Wait + Clock>(
     let Wires {
         rt: _,
         running: _,
+        switches: _,
         turnstile: _,
         scribe: _,
         desk: _,

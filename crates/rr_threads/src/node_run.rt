@@ -39,15 +39,6 @@ pub struct Part<D: Disk> {
     pub mail: Mail,
 }
 
-impl<D: Disk> Part<D> {
-    /// Which node it is.
-    pub fn node(&self) -> NodeId
-        ensures { result ≡ self.now.node }
-    {
-        self.node
-    }
-}
-
 /// What is left of a node that has gone down, and its clients that aren't done. Its disk or its mail is missing where a thread
 /// couldn't be made, and then the run is over.
 #[derive(Drop)]
@@ -434,7 +425,7 @@ fn run_crew<
     let first = publish_first(rt, &core, &mut follower);
     let desk: Desk<W> = Desk::new(node, start, Locked::new(core), counters);
     match first {
-        Ok(published) => shared.note_up(node, published),
+        Ok(published) => desk.note_up(shared, published),
         Err(refusal) => {
             shared.fail(rt, node, refusal);
         }

@@ -2,25 +2,29 @@
 //!
 //! No contract says that a thread runs. That each node gets one, and which refusal a run has, is read: `start_node`, `start_all`, `run_scope`.
 
-ghost use Rattle.std.specs.Prelude.{◌≡◌, ◌<◌, length, map, IfOk};
+ghost use Rattle.std.specs.Prelude.{◌≡◌, ◌<◌, true, false, length, map, All, Ok, IfOk};
 ghost use Rattle.std.specs.Duration.{as_nanos};
 ghost use Rattle.std.specs.List.{range_with_len};
 ghost use Rattle.std.specs.Thread.{IsSend};
+ghost use Rattle.rr_types.specs.Nodes.{has_member};
+ghost use Rattle.rr_threads.specs.Beginnings.{node_of, mail_of, is_left_out, IsOpened};
 ghost use Rattle.rr_threads.specs.Ways.{AreWired};
 
 use crate::agreeing::{Agreed, all_agree};
+use crate::beginning::{Begun, LeftOut};
 use crate::client::Client;
+use crate::disputing::DIFFERENT;
 use crate::lives::{open_part, run_lives};
-use crate::node_run::Part;
+use crate::ready::Ready;
 use crate::recorder::Recorder;
 use crate::running::Running;
-use crate::shared::{Shared, Start};
+use crate::shared::Shared;
 use crate::switches::Switches;
 use crate::wires::Mail;
 use crate::wiring::open_mails;
-use rr_disk::Disk;
+use rr_disk::{Disk, Reopen};
 use rr_turn::Turnstile;
-use rr_types::{NodeId, Nodes, Refusal};
+use rr_types::{NodeId, NodeSet, Nodes, Refusal};
 use std::alloc::Global;
 use std::sync::Wait;
 use std::thread;
@@ -37,42 +41,46 @@ pub fn usual_tick() -> Duration
     Duration::from_millis(TICK)
 }
 
-/// The refusal where two disks decide an instance differently.
-const DIFFERENT: Refusal = Refusal::Damaged { area: 0, offset: 0 };
-
-/// Opens a node of this disk for the begin of a run, which a refusal ends.
-fn open_first<D: Disk + Drop, T: Turnstile>(
+/// Begins a node: opens it of this disk, which a refusal ends, or leaves it out.
+fn begin_node<D: Disk + Drop, T: Turnstile>(
     turnstile: &T,
     alloc: Global,
     nodes: Nodes,
+    without: NodeSet,
     node: NodeId,
     disk: D,
     mail: Mail,
-) -> Result<Part<D>, Refusal>
+) -> Result<Begun<D>, Refusal>
     requires exists { node < nodes }
     requires alike { (one other : D) → D.tells one → D.tells other }
-    ensures whose { IfOk result (λ part. (part.start.moves ≡ 0) × (part.node ≡ node) × (part.journal.node ≡ node) × (part.journal.nodes ≡ nodes)) }
-    ensures mail { IfOk result (λ part. part.mail ≡ mail) }
+    ensures left_out { has_member without node ≡ true → result ≡ Ok (Begun.LeftOut (record { node = node; disk = disk; mail = mail })) }
+    ensures up { has_member without node ≡ false → IfOk result (IsOpened nodes node mail) }
+    ensures whose { IfOk result (λ begun. (node_of begun ≡ node) × (mail_of begun ≡ mail) × (is_left_out begun ≡ has_member without node)) }
 {
-    match open_part(turnstile, alloc, Start::first(), nodes, node, disk, mail) {
-        Ok(part) => Ok(part),
+    if without.contains(node) {
+        return Ok(Begun::LeftOut(LeftOut { node, disk, mail }));
+    }
+    match open_part(turnstile, alloc, nodes, node, Ready::first(disk), mail) {
+        Ok(part) => Ok(Begun::Up(part)),
         Err(unopened) => Err(unopened.refusal),
     }
 }
 
-/// Opens the nodes of these disks, the lowest first, each with its clients.
+/// Begins the nodes of these disks, the lowest first, each with its clients: those of a set are left out, and the others opened.
 fn open_parts<D: Disk + Drop, T: Turnstile, C: Drop>(
     turnstile: &T,
     alloc: Global,
     nodes: Nodes,
+    without: NodeSet,
     disks: Vec<D>,
     clients: Vec<Vec<C>>,
-) -> Result<Vec<(Part<D>, Vec<C>)>, Refusal>
+) -> Result<Vec<(Begun<D>, Vec<C>)>, Refusal>
     requires alike { (one other : D) → D.tells one → D.tells other }
     requires disks { length disks.items ≡ nodes }
     requires clients { length clients.items ≡ nodes }
-    ensures nodes { IfOk result (λ parts. map (λ p. p.0.node) parts.items ≡ range_with_len 0 nodes) }
-    ensures wired { IfOk result (λ parts. AreWired (map (λ p. p.0.mail) parts.items)) }
+    ensures nodes { IfOk result (λ parts. map (λ p. node_of p.0) parts.items ≡ range_with_len 0 nodes) }
+    ensures left_out { IfOk result (λ parts. All (λ p. is_left_out p.0 ≡ has_member without (node_of p.0)) parts.items) }
+    ensures wired { IfOk result (λ parts. AreWired (map (λ p. mail_of p.0) parts.items)) }
     ensures clients { IfOk result (λ parts. map (λ p. p.1) parts.items ≡ clients.items) }
 {
     let mails = open_mails(alloc, nodes)?;
@@ -90,8 +98,8 @@ fn open_parts<D: Disk + Drop, T: Turnstile, C: Drop>(
         let Some(own) = clients.next() else {
             unreachable!()
         };
-        let part = open_first(turnstile, alloc, nodes, node, disk, mail)?;
-        parts.push((part, own))?;
+        let begun = begin_node(turnstile, alloc, nodes, without, node, disk, mail)?;
+        parts.push((begun, own))?;
         index += 1;
     }
     Ok(parts)
@@ -102,7 +110,7 @@ fn start_node<
     's,
     'x: 's,
     E,
-    D: Disk + Drop + Send + 's,
+    D: Disk + Reopen + Drop + Send + 's,
     T: Turnstile + Sync + 's,
     R: Threads + Wait + Clock + Sync + 's,
     C: Client + Drop + Send + 's,
@@ -111,7 +119,7 @@ fn start_node<
     rt: &'s R,
     alloc: Global,
     shared: &'s Shared<'x, T>,
-    part: Part<D>,
+    begun: Begun<D>,
     clients: Vec<C>,
 ) -> bool
     requires alike { (one other : D) → D.tells one → D.tells other }
@@ -119,7 +127,7 @@ fn start_node<
     let started = scope.spawn(
         move ||
             requires { (one other : D) → D.tells one → D.tells other }
-        { run_lives(rt, alloc, shared, part, clients) },
+        { run_lives(rt, alloc, shared, begun, clients) },
     );
     started.is_ok()
 }
@@ -129,7 +137,7 @@ fn start_all<
     's,
     'x: 's,
     E,
-    D: Disk + Drop + Send + 's,
+    D: Disk + Reopen + Drop + Send + 's,
     T: Turnstile + Sync + 's,
     R: Threads + Wait + Clock + Sync + 's,
     C: Client + Drop + Send + 's,
@@ -138,13 +146,13 @@ fn start_all<
     rt: &'s R,
     alloc: Global,
     shared: &'s Shared<'x, T>,
-    parts: Vec<(Part<D>, Vec<C>)>,
+    parts: Vec<(Begun<D>, Vec<C>)>,
 )
     requires alike { (one other : D) → D.tells one → D.tells other }
 {
-    for (part, clients) in parts {
-        let node = part.node();
-        if !start_node(scope, rt, alloc, shared, part, clients) {
+    for (begun, clients) in parts {
+        let node = begun.node();
+        if !start_node(scope, rt, alloc, shared, begun, clients) {
             shared.running.fail(rt, node, Refusal::OutOfMemory);
         }
     }
@@ -154,7 +162,7 @@ fn start_all<
 fn run_scope<
     's,
     'x,
-    D: Disk + Drop + Send,
+    D: Disk + Reopen + Drop + Send,
     T: Turnstile + Sync,
     R: Threads + Wait + Clock + Sync,
     C: Client + Drop + Send,
@@ -171,7 +179,7 @@ fn run_scope<
 }
 
 /// How many clients these are.
-fn count_clients<D: Disk, C>(parts: &[(Part<D>, Vec<C>)]) -> usize {
+fn count_clients<D: Disk, C>(parts: &[(Begun<D>, Vec<C>)]) -> usize {
     let mut count = 0usize;
     for (_, clients) in parts {
         count = count.saturating_add(clients.len());
@@ -179,10 +187,11 @@ fn count_clients<D: Disk, C>(parts: &[(Part<D>, Vec<C>)]) -> usize {
     count
 }
 
-/// Runs these nodes over these disks as `run_clients` does, with a recorder or with switches or with neither. The next tick of a node
-/// is due so long after one.
+/// Runs these nodes over these disks as `run_clients` does, with a recorder or with switches or with neither. Those of a set are left
+/// out at the begin: they are down, and their disks aren't opened before they are started. The next tick of a node is due so long after
+/// one.
 pub fn run_all<
-    D: Disk + Drop + Send,
+    D: Disk + Reopen + Drop + Send,
     T: Turnstile + Sync,
     R: Threads + Wait + Clock + Sync,
     C: Client + Drop + Send,
@@ -190,6 +199,7 @@ pub fn run_all<
     rt: &R,
     alloc: Global,
     nodes: Nodes,
+    without: NodeSet,
     disks: Vec<D>,
     clients: Vec<Vec<C>>,
     turnstile: &T,
@@ -204,7 +214,7 @@ pub fn run_all<
     if disks.len() != count || clients.len() != count {
         return Err(Refusal::BadNodes);
     }
-    let parts = open_parts(turnstile, alloc, nodes, disks, clients)?;
+    let parts = open_parts(turnstile, alloc, nodes, without, disks, clients)?;
     let Some(agreed) = all_agree(parts) else {
         return Err(DIFFERENT);
     };
@@ -245,7 +255,7 @@ pub fn run_all<
 /// - what a client's `run` gives;
 /// - `BadEvent` of the event for which the tape has no place, with a recorder, which wants fresh disks.
 pub fn run_clients<
-    D: Disk + Drop + Send,
+    D: Disk + Reopen + Drop + Send,
     T: Turnstile + Sync,
     R: Threads + Wait + Clock + Sync,
     C: Client + Drop + Send,
@@ -262,20 +272,22 @@ pub fn run_clients<
     ensures counts { IfOk result (λ _. (length disks.items ≡ nodes) × (length clients.items ≡ nodes)) }
 {
     let tick = usual_tick();
+    let without = NodeSet::empty();
     run_all(
-        rt, alloc, nodes, disks, clients, turnstile, recorder, None, tick,
+        rt, alloc, nodes, without, disks, clients, turnstile, recorder, None, tick,
     )
 }
 
-/// Runs nodes as `run_clients` does, while a host stops and starts them by their switches. A node that is started opens its
-/// disk as at the beginning. The run lasts until each client is done, also those of nodes that are down. The switches say how often
-/// nodes tick. A node that fails goes down alone, as one that is stopped, and so does one whose disk is refused at a start: the switches
-/// say why.
+/// Runs nodes as `run_clients` does, while a host stops and starts them by their switches. A node that is started has its disk opened
+/// again, and recovers from it as at the beginning. A node whose switch is off at the begin is left out: its disk isn't opened, nor
+/// compared with others, before it is started. The run lasts until each client is done, also those of nodes that are down. The switches
+/// say how often nodes tick. A node that fails goes down alone, as one that is stopped, and so does one whose disk is refused at a
+/// start: the switches say why.
 ///
 /// # Errors
 /// As of `run_clients` before the nodes are up. Afterwards `OutOfMemory`, where a thread can't be made, and what a client's `run` gives.
 pub fn run_switched<
-    D: Disk + Drop + Send,
+    D: Disk + Reopen + Drop + Send,
     T: Turnstile + Sync,
     R: Threads + Wait + Clock + Sync,
     C: Client + Drop + Send,
@@ -295,6 +307,7 @@ pub fn run_switched<
         rt,
         alloc,
         nodes,
+        switches.those_off(nodes),
         disks,
         clients,
         turnstile,

@@ -3,17 +3,18 @@
 //! What the clients put under locks no contract knows. So that each line is asked once, and answered at its place, is read: `Reader::run`,
 //! `in_order`.
 
-ghost use Rattle.std.specs.Prelude.{◌≡◌, true, length, IfOk};
+ghost use Rattle.std.specs.Prelude.{◌≡◌, true, length, map, IfOk};
 ghost use Rattle.rr_threads.specs.Reusing.{are_reused};
+ghost use Rattle.rr_threads.specs.Unasked.{unasked, first_answer};
 
 use crate::client::{Client, Handle};
 use crate::recorder::Recorder;
 use crate::reused::{Reused, are_reused};
 use crate::run::{run_all, usual_tick};
-use rr_disk::Disk;
+use rr_disk::{Disk, Reopen};
 use rr_text::{Answer, Answers, Script, ScriptLine};
 use rr_turn::Turnstile;
-use rr_types::{Command, Name, Nodes, Op, Refusal, Reply, Value, made_of};
+use rr_types::{Command, Name, NodeSet, Nodes, Op, Refusal, Reply, Value, made_of};
 use rr_window::WindowName;
 use std::alloc::Global;
 use std::sync::{Mutex, Wait};
@@ -75,21 +76,58 @@ impl<'x> Client for Reader<'x> {
     }
 }
 
-/// Room for the answers to `count` lines.
-fn slots(alloc: Global, count: usize) -> Result<Vec<Option<Answer>>, Refusal>
-    ensures { IfOk result (λ slots. length slots.items ≡ count) }
+/// What a line is answered that nobody asks, as its node is left out: the same as by a node that is down.
+fn unasked(line: &ScriptLine) -> Answer
+    ensures { result ≡ unasked line.now }
+{
+    made_of!(Command, Op, Name, Value);
+    match line {
+        ScriptLine::Submit { node, command } => Answer::Unacknowledged {
+            node: *node,
+            request: command.request,
+        },
+        ScriptLine::Look { node, name } => Answer::Unseen {
+            node: *node,
+            name: *name,
+        },
+    }
+}
+
+/// What a line is answered before any is asked, where these nodes are left out.
+fn first_answer(without: NodeSet, line: &ScriptLine) -> Option<Answer>
+    ensures { result ≡ first_answer without line.now }
+{
+    if without.contains(line.node()) {
+        Some(unasked(line))
+    } else {
+        None
+    }
+}
+
+/// Room for the answers to these lines. Those of nodes that are left out are answered.
+fn slots(
+    alloc: Global,
+    without: NodeSet,
+    lines: &[ScriptLine],
+) -> Result<Vec<Option<Answer>>, Refusal>
+    ensures { IfOk result (λ slots. slots.items ≡ map (first_answer without) lines.now) }
 {
     let mut slots = Vec::new(alloc);
-    for made in 0..count {
-        slots.push(None)?;
+    for line in lines {
+        slots.push(first_answer(without, line))?;
     }
     Ok(slots)
 }
 
 /// The answers in the order of their lines.
-fn in_order(alloc: Global, count: usize, answered: &[Answered]) -> Result<Answers, Refusal> {
+fn in_order(
+    alloc: Global,
+    without: NodeSet,
+    lines: &[ScriptLine],
+    answered: &[Answered],
+) -> Result<Answers, Refusal> {
     made_of!(Answer, Name, Op, Reply, Value);
-    let mut slots = slots(alloc, count)?;
+    let mut slots = slots(alloc, without, lines)?;
     for one in answered {
         if let Some(slot) = slots.get_mut(one.place) {
             *slot = Some(one.answer);
@@ -163,7 +201,11 @@ fn readers<'x>(
 ///
 /// # Errors
 /// As of `run_clients`, but `SeatsTaken`. It is `BadNodes` unless there is a disk for each node of the script.
-pub fn run_script<D: Disk + Drop + Send, T: Turnstile + Sync, R: Threads + Wait + Clock + Sync>(
+pub fn run_script<
+    D: Disk + Reopen + Drop + Send,
+    T: Turnstile + Sync,
+    R: Threads + Wait + Clock + Sync,
+>(
     rt: &R,
     alloc: Global,
     disks: Vec<D>,
@@ -183,7 +225,7 @@ pub fn run_script<D: Disk + Drop + Send, T: Turnstile + Sync, R: Threads + Wait 
 /// # Errors
 /// As of `run_script`.
 pub fn run_script_ticking<
-    D: Disk + Drop + Send,
+    D: Disk + Reopen + Drop + Send,
     T: Turnstile + Sync,
     R: Threads + Wait + Clock + Sync,
 >(
@@ -198,22 +240,25 @@ pub fn run_script_ticking<
     requires alike { (one other : D) → D.tells one → D.tells other }
     ensures counts { IfOk result (λ _. length disks.items ≡ script.now.nodes) }
 {
-    let ran = run_script_told(rt, alloc, disks, script, turnstile, recorder, tick)?;
+    let without = NodeSet::empty();
+    let ran = run_script_told(rt, alloc, without, disks, script, turnstile, recorder, tick)?;
     Ok(ran.answers)
 }
 
 /// As `run_script_ticking`, but it also tells which request numbers of the script are decided as other commands. Each node's client
-/// looks for those of its lines once it has asked them all.
+/// looks for those of its lines once it has asked them all. The nodes of a set are left out: their disks aren't opened, and their lines
+/// are answered as by a node that is down, at their places.
 ///
 /// # Errors
 /// As of `run_script`.
 pub fn run_script_told<
-    D: Disk + Drop + Send,
+    D: Disk + Reopen + Drop + Send,
     T: Turnstile + Sync,
     R: Threads + Wait + Clock + Sync,
 >(
     rt: &R,
     alloc: Global,
+    without: NodeSet,
     disks: Vec<D>,
     script: &Script,
     turnstile: &T,
@@ -230,9 +275,9 @@ pub fn run_script_told<
     let found: Mutex<Vec<Reused>> = Mutex::new(Vec::new(alloc));
     let clients = readers(alloc, nodes, lines, &answers, &found)?;
     run_all(
-        rt, alloc, nodes, disks, clients, turnstile, recorder, None, tick,
+        rt, alloc, nodes, without, disks, clients, turnstile, recorder, None, tick,
     )?;
-    let answers = in_order(alloc, lines.len(), answers.into_inner().as_slice())?;
+    let answers = in_order(alloc, without, lines, answers.into_inner().as_slice())?;
     let reused = reused_in_order(alloc, lines, found.into_inner().as_slice())?;
     Ok(Ran { answers, reused })
 }

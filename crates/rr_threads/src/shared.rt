@@ -74,17 +74,17 @@ impl<'x, T> Shared<'x, T> {
         self.breaker().fail(rt, node, refusal)
     }
 
-    /// A node has come up: what its disk had is published.
-    pub fn note_up(&self, node: NodeId, _published: Published) {
+    /// A node has come up by this start: what its disk had is published.
+    pub fn note_up(&self, node: NodeId, start: &Start, _published: Published) {
         if let Some(switches) = self.switches {
-            switches.note(node, true);
+            switches.note_up(node, start.moves);
         }
     }
 
     /// A node has gone down.
     pub fn note_down(&self, node: NodeId) -> Gone {
         if let Some(switches) = self.switches {
-            switches.note(node, false);
+            switches.note_down(node);
         }
         Gone { noted: () }
     }

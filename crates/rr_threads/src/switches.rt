@@ -1,15 +1,16 @@
 //! Switches by which the nodes of a run are stopped and started again.
 //!
-//! No contract knows what an atomic or a lock holds. What a count of moves means has its clauses (`is_even`, `if_on`, `failure_at`). That a switch
-//! is moved, noted and looked at is read: a line or two each.
+//! No contract knows what an atomic or a lock holds. What a count of moves means has its clauses (`is_even`, `if_on`, `failure_at`,
+//! `dispute_at`, `is_life_up`). That a switch is moved, noted and looked at is read: a line or two each.
 
-ghost use Rattle.std.specs.Prelude.{◌≡◌, ◌%◌, ◌==◌, if◌then◌else◌, None, Some, slice_get, vec_len, IfOk};
+ghost use Rattle.std.specs.Prelude.{◌≡◌, ◌%◌, ◌==◌, ◌&&◌, ◌||◌, not, if◌then◌else◌, None, Some, slice_get, vec_len, IfOk};
 ghost use Rattle.std.specs.Option.{option_copied};
-ghost use Rattle.rr_threads.specs.Trips.{failure_at};
+ghost use Rattle.rr_threads.specs.Trips.{failure_at, dispute_at, is_life_up};
 
+use crate::disputing::Dispute;
 use crate::rest::LONG;
 use crate::run::usual_tick;
-use rr_types::{NodeId, Nodes, Refusal};
+use rr_types::{Command, Name, NodeId, NodeSet, Nodes, Op, Refusal, Value, made_of};
 use std::alloc::Global;
 use std::sync::atomic::{AtomicBool, AtomicU64, Ordering};
 use std::sync::{Mutex, Wait};
@@ -27,13 +28,22 @@ struct Trip {
     refusal: Refusal,
 }
 
-/// How often the switch of a node was moved, whether the node is up, and the last failure that moved the switch. The switch is on where
-/// that number is even.
+/// A dispute by which a node goes down, and how often its switch is moved then.
+#[derive(Clone, Copy, Debug)]
+struct Noted {
+    moves: u64,
+    dispute: Dispute,
+}
+
+/// How often the switch of a node was moved, whether the node is up, at which move the life began that came up last, the last failure
+/// that moved the switch, and the last dispute. The switch is on where that number is even.
 #[derive(Drop)]
 struct Switch {
     moves: AtomicU64,
     is_up: AtomicBool,
+    life: AtomicU64,
     trip: Mutex<Option<Trip>>,
+    noted: Mutex<Option<Noted>>,
 }
 
 /// That a node's switch was turned off as the node failed. Only `Switches::fail` gives this.
@@ -54,11 +64,33 @@ impl Tripped {
 impl Switch {
     /// A switch that is on.
     fn new() -> Switch {
+        made_of!(Command, Dispute, Name, Noted, Op, Value);
         Switch {
             moves: AtomicU64::new(0),
             is_up: AtomicBool::new(false),
+            life: AtomicU64::new(0),
             trip: Mutex::new(None),
+            noted: Mutex::new(None),
         }
+    }
+
+    /// Notes a dispute by which the node goes down, unless it does so already.
+    fn note_dispute<R: Wait>(&self, rt: &R, dispute: &Dispute) {
+        made_of!(Command, Name, Op, Value);
+        let next = self.moves.load(Ordering::SeqCst).saturating_add(1);
+        if !is_even(next) {
+            *self.noted.lock(rt) = Some(Noted {
+                moves: next,
+                dispute: *dispute,
+            });
+        }
+    }
+
+    /// Whether the node is up, and by the start at which the switch stands, if it is on.
+    fn is_up(&self) -> bool {
+        let is_up = self.is_up.load(Ordering::SeqCst);
+        let life = self.life.load(Ordering::SeqCst);
+        is_life_up(is_up, life, self.moves.load(Ordering::SeqCst))
     }
 
     /// Turns it off by a failure, which is noted first, so that whoever sees the switch off sees why.
@@ -102,6 +134,25 @@ fn failure_at(trip: &Option<Trip>, moves: u64) -> Option<Refusal>
     }
 }
 
+// The dispute by which a node went down whose switch was moved so often.
+fn dispute_at(noted: &Option<Noted>, moves: u64) -> Option<Dispute>
+    ensures { result ≡ dispute_at noted.now moves }
+{
+    made_of!(Command, Name, Op, Value);
+    match noted {
+        Some(noted) if noted.moves == moves => Some(noted.dispute),
+        _ => None,
+    }
+}
+
+// Whether a node is up whose last life came up by the start at this move. Where its switch is on, it is to be the start at which that
+// stands: a life that is about to end is no start's behind it.
+fn is_life_up(is_up: bool, life: u64, moves: u64) -> bool
+    ensures { result ≡ is_life_up is_up life moves }
+{
+    is_up && (life == moves || !is_even(moves))
+}
+
 // How often a switch was moved, where it is on.
 fn if_on(moves: u64) -> Option<u64>
     ensures { result ≡ (if moves % 2 == 0 then Some moves else None) }
@@ -109,10 +160,12 @@ fn if_on(moves: u64) -> Option<u64>
     if is_even(moves) { Some(moves) } else { None }
 }
 
-/// Switches by which a host stops nodes of a run and starts them again, while the others go on. They are on at first.
+/// Switches by which a host stops nodes of a run and starts them again, while the others go on. They are on at first. A node that is
+/// stopped before the run begins is left out of its begin.
 ///
 /// A stopped node goes down as by a crash of its threads: of what it knew there is left what its disk has. It
-/// recovers from that disk when it is started. A node that fails goes down in the same way, alone, and why is told by `failure`.
+/// recovers from that disk when it is started. A node that fails goes down in the same way, alone, and why is told by `failure`, and by
+/// `dispute` where it has heard a decision against its own.
 #[derive(Drop)]
 pub struct Switches {
     switches: Vec<Switch>,
@@ -188,19 +241,28 @@ impl Switches {
         failure_at(&trip, switch.moves.load(Ordering::SeqCst))
     }
 
-    /// Whether the node is up: what its disk had is published, and its threads haven't ended.
+    /// The decisions over which the node went down, if it went down since another node's differed from its own, and hasn't been started
+    /// since. Its failure is then `Damaged { area: 0, offset: 0 }`, unless another came first.
+    pub fn dispute<R: Wait>(&self, rt: &R, node: NodeId) -> Option<Dispute> {
+        made_of!(Command, Name, Op, Value);
+        let switch = self.switch(node)?;
+        let noted = *switch.noted.lock(rt);
+        dispute_at(&noted, switch.moves.load(Ordering::SeqCst))
+    }
+
+    /// Whether the node is up: what its disk had is published, and its threads haven't ended. A node that was started counts as up only
+    /// once it is by that start.
     pub fn is_up(&self, node: NodeId) -> bool {
         match self.switch(node) {
-            Some(switch) => switch.is_up.load(Ordering::SeqCst),
+            Some(switch) => switch.is_up(),
             None => false,
         }
     }
 
-    /// Whether all nodes have begun: each is up, or has gone down again.
+    /// Whether all nodes have begun: each is up, or has gone down again, or was left out.
     pub fn have_all_begun(&self) -> bool {
         for switch in &self.switches {
-            let moves = switch.moves.load(Ordering::SeqCst);
-            if !switch.is_up.load(Ordering::SeqCst) && is_even(moves) {
+            if !switch.is_up() && is_even(switch.moves.load(Ordering::SeqCst)) {
                 return false;
             }
         }
@@ -236,12 +298,41 @@ impl Switches {
         }
     }
 
-    /// The node has come up or gone down.
-    pub(crate) fn note(&self, node: NodeId, is_up: bool) {
+    /// The node has heard a decision against its own, and is about to fail.
+    pub(crate) fn note_dispute<R: Wait>(&self, rt: &R, node: NodeId, dispute: &Dispute) {
         if let Some(switch) = self.switch(node) {
-            switch.is_up.store(is_up, Ordering::SeqCst);
+            switch.note_dispute(rt, dispute);
+        }
+    }
+
+    /// The node has come up, by the start at this move of its switch.
+    pub(crate) fn note_up(&self, node: NodeId, life: u64) {
+        if let Some(switch) = self.switch(node) {
+            switch.life.store(life, Ordering::SeqCst);
+            switch.is_up.store(true, Ordering::SeqCst);
         }
         self.host.unpark();
+    }
+
+    /// The node has gone down.
+    pub(crate) fn note_down(&self, node: NodeId) {
+        if let Some(switch) = self.switch(node) {
+            switch.is_up.store(false, Ordering::SeqCst);
+        }
+        self.host.unpark();
+    }
+
+    /// Those of these nodes whose switch is off.
+    pub(crate) fn those_off(&self, nodes: Nodes) -> NodeSet {
+        let mut off = NodeSet::empty();
+        for index in 0..nodes.count() {
+            if let Some(node) = NodeId::new(nodes, index) {
+                if !self.is_on(node) {
+                    off = off.with(node);
+                }
+            }
+        }
+        off
     }
 
     /// How often the node's switch was moved, where it is on.

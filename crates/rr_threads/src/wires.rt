@@ -8,9 +8,11 @@ ghost use Rattle.rr_threads.specs.Ways.{IsPut, IsPutIfAny, IsPutLate, IsPutTo, I
 ghost use Rattle.rr_threads.specs.Mails.{mail_gives};
 
 use crate::desk::Desk;
+use crate::disputing::hear_undisputed;
 use crate::recorder::{Recorder, Scribe};
 use crate::rest::Rest;
 use crate::running::Running;
+use crate::switches::Switches;
 use rr_journal::Synced;
 use rr_turn::{
     Bell, FlusherRung, Kept, Links, Locked, Place, PublisherRung, Rung, Sent, Turnstile, Unflushed,
@@ -153,6 +155,7 @@ pub struct NodeEnds {
 pub struct Wires<'x, W: WindowName, T, R> {
     pub rt: &'x R,
     pub running: &'x Running,
+    pub switches: Option<&'x Switches>,
     pub turnstile: &'x T,
     pub scribe: Scribe<'x, R>,
     pub desk: &'x Desk<W>,
@@ -166,6 +169,7 @@ impl<'x, W: WindowName, T, R> Wires<'x, W, T, R> {
     pub fn new(
         rt: &'x R,
         running: &'x Running,
+        switches: Option<&'x Switches>,
         turnstile: &'x T,
         recorder: Option<&'x Recorder>,
         desk: &'x Desk<W>,
@@ -177,6 +181,7 @@ impl<'x, W: WindowName, T, R> Wires<'x, W, T, R> {
         Wires {
             rt,
             running,
+            switches,
             turnstile,
             scribe: Scribe::new(rt, recorder),
             desk,
@@ -195,7 +200,8 @@ impl<'x, W: WindowName, T: Turnstile, R: Wait + Clock> Links for Wires<'x, W, T,
     }
 
     fn hear(&mut self, locked: &mut Locked, sent: &Sent) -> Result<(), Refusal> {
-        self.scribe.hear(locked, sent)
+        let node = self.desk.node;
+        hear_undisputed(self.rt, self.switches, &self.scribe, node, locked, sent)
     }
 
     fn mark(&mut self, locked: &mut Locked, synced: Synced) -> Result<(), Refusal> {

@@ -2,6 +2,7 @@ mod asking;
 mod catching;
 mod failing;
 mod first_page;
+mod leaving;
 mod nodes;
 mod opening;
 mod snapshotting;
