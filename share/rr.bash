@@ -12,8 +12,8 @@ _rr() {
     random) words='--seed --steps --nodes --lively --faults --finish --schedule-only --json -h --help'; takes=nothing ;;
     sweep) words='--seed -h --help'; takes=files ;;
     draw) words='--from --to --node --instance --requests --tape --html -h --help'; takes=files ;;
-    run) words='--nodes --dir --script --tape --tick --json -h --help'; takes=nothing ;;
-    shell) words='--nodes --dir --client -c --command --tick --strict --json -h --help'; takes=nothing ;;
+    run) words='--nodes --dir --script --tape --tick --without --json -h --help'; takes=nothing ;;
+    shell) words='--nodes --dir --client -c --command --tick --without --strict --json -h --help'; takes=nothing ;;
     audit) words='--explain --json -h --help'; takes=files ;;
     show) words='--json -h --help'; takes=folders ;;
     verify) words='--json -h --help'; takes=folders ;;
@@ -37,11 +37,13 @@ _rr() {
     run:--script) takes=files; words= ;;
     run:--tape) takes=files; words= ;;
     run:--tick) takes=nothing; words= ;;
+    run:--without) takes=nothing; words= ;;
     shell:--client) takes=nothing; words= ;;
     shell:--command) takes=nothing; words= ;;
     shell:--dir) takes=folders; words= ;;
     shell:--nodes) takes=nothing; words= ;;
     shell:--tick) takes=nothing; words= ;;
+    shell:--without) takes=nothing; words= ;;
     shell:-c) takes=nothing; words= ;;
     sweep:--seed) takes=nothing; words= ;;
   esac

@@ -51,6 +51,10 @@ lines_rule id long letter = record (record (named_rule id long) { short = Some l
 abbrev pub tick_rule : Rule
 tick_rule = optional_number_rule (codes "TICK") (codes "tick") 10 10000
 
+-- the option for nodes that are left down, which may be left out
+abbrev pub without_rule : Rule
+without_rule = option_rule (codes "WITHOUT") (codes "without") false
+
 -- one argument more
 unfoldable pub with_arg : App → Rule → App
 with_arg line rule = with_rule line rule
@@ -110,11 +114,12 @@ audit_line =
     (flag_rule (codes "EXPLAIN") (codes "explain")))
     (flag_rule (codes "JSON") (codes "json"))
 
--- the subcommand run, with a number of nodes, the folder of their folders, the file of a script, the file for a tape and the
--- time between ticks, which may be left out, and the option for JSON
+-- the subcommand run, with a number of nodes, the folder of their folders, the file of a script, the file for a tape, the time
+-- between ticks and the nodes that are left down, which may be left out, and the option for JSON
 unfoldable pub run_line : App
 run_line =
     with_arg
+    (with_arg
     (with_arg
     (with_arg
     (with_arg (with_arg (with_arg (new_app (codes "run"))
@@ -123,6 +128,7 @@ run_line =
     (option_rule (codes "SCRIPT") (codes "script") true))
     (option_rule (codes "TAPE") (codes "tape") false))
     tick_rule)
+    without_rule)
     (flag_rule (codes "JSON") (codes "json"))
 
 -- the subcommand shell, with a number of nodes, the folder of their folders, the number of a client and lines, all of which
@@ -136,9 +142,15 @@ asking_line =
     (optional_number_rule (codes "CLIENT") (codes "client") 0 4294967295))
     (lines_rule (codes "LINE") (codes "command") 99)
 
--- the same with the options for the time between ticks, for an end at the first line that isn't answered as asked, and for JSON
+-- the same with the options for the time between ticks, for nodes that are left down, for an end at the first line that isn't
+-- answered as asked, and for JSON
 unfoldable pub shell_line : App
-shell_line = with_arg (with_arg (with_arg asking_line tick_rule) (flag_rule (codes "STRICT") (codes "strict"))) (flag_rule (codes "JSON") (codes "json"))
+shell_line =
+    with_arg (with_arg (with_arg (with_arg asking_line
+    tick_rule)
+    without_rule)
+    (flag_rule (codes "STRICT") (codes "strict")))
+    (flag_rule (codes "JSON") (codes "json"))
 
 -- the subcommand sweep, with a FILE that may be left out, and a seed
 unfoldable pub sweep_line : App

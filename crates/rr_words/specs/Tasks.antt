@@ -52,14 +52,15 @@ pub record RandomWords : Type 0 where
   pub alone : Bool
   pub form : Form
 
--- the words of a shell: a number of nodes, the folder of their folders, a client and the milliseconds between two ticks, which may
--- be left out; its lines, or none
--- where standard input has them; whether it ends at the first that isn't answered as asked; and whether it answers with JSON
+-- the words of a shell: a number of nodes, the folder of their folders, a client, the milliseconds between two ticks and the nodes
+-- that are left down, which may be left out; its lines, or none where standard input has them; whether it ends at the first that
+-- isn't answered as asked; and whether it answers with JSON
 pub record ShellWords : Type 0 where
   pub nodes : Option Text
   pub dir : Option Text
   pub client : Option Text
   pub tick : Option Text
+  pub without : Option Text
   pub lines : List Text
   pub strict : Bool
   pub json : Bool
@@ -79,18 +80,18 @@ pub data View : Type 0 where
 -- what a command asks for: the report of the schedule in this file or else in standard input; or a view of its run; or the areas
 -- of the disk in this folder; or a random schedule by these words; or the audit of the tape in this file or else in standard
 -- input; or a run of this number of nodes in threads, over the folders in this folder, by the script in this file, with its tape
--- in this file or none, so many milliseconds between two ticks, and answers in this form; or a shell by these words; or a sweep
--- of the schedule in this file or else in standard input, with this seed, which only wrong words leave out; or the picture of the
--- schedule in this file or else in standard input, of the cut that these words write; or an opening of the disk in this folder as
--- that of this node of so many, all of which only wrong words leave out, and its areas then; or whether the folders in this
--- folder agree; or the registry that they have decided as a script, or else the decided list, or one of them as JSON
+-- in this file or none, so many milliseconds between two ticks, these nodes left down, and answers in this form; or a shell by
+-- these words; or a sweep of the schedule in this file or else in standard input, with this seed, which only wrong words leave out;
+-- or the picture of the schedule in this file or else in standard input, of the cut that these words write; or an opening of the
+-- disk in this folder as that of this node of so many, all of which only wrong words leave out, and its areas then; or whether the
+-- folders in this folder agree; or the registry that they have decided as a script, or else the decided list, or one of them as JSON
 pub data Task : Type 0 where
   Simulate : Option Text → Task
   Viewing : View → Task
   Show : Option Text → Form → Task
   Random : RandomWords → Task
   Audit : Option Text → Form → Task
-  Run : Option Text → Option Text → Option Text → Option Text → Option Text → Form → Task
+  Run : Option Text → Option Text → Option Text → Option Text → Option Text → Option Text → Form → Task
   Shell : ShellWords → Task
   Sweep : Option Text → Option Text → Task
   Draw : Option Text → CutWords → Task
@@ -181,7 +182,7 @@ random_task rows =
 abbrev pub run_task : List Row → Task
 run_task rows =
     Run (first_of (codes "NODES") rows) (first_of (codes "DIR") rows) (first_of (codes "SCRIPT") rows) (first_of (codes "TAPE") rows)
-    (first_of (codes "TICK") rows) (form_of rows)
+    (first_of (codes "TICK") rows) (first_of (codes "WITHOUT") rows) (form_of rows)
 
 abbrev pub shell_task : List Row → Task
 shell_task rows =
@@ -190,6 +191,7 @@ shell_task rows =
       dir = first_of (codes "DIR") rows;
       client = first_of (codes "CLIENT") rows;
       tick = first_of (codes "TICK") rows;
+      without = first_of (codes "WITHOUT") rows;
       lines = unwrap_or (all_of (codes "LINE") rows) [];
       strict = is_set (codes "STRICT") rows;
       json = is_set (codes "JSON") rows;
@@ -279,6 +281,7 @@ shell_words_in words =
       dir = option_map (λ s. s.now) words.dir;
       client = option_map (λ s. s.now) words.client;
       tick = option_map (λ s. s.now) words.tick;
+      without = option_map (λ s. s.now) words.without;
       lines = map (λ s. s.now) words.lines.items;
       strict = words.strict;
       json = words.json;
@@ -301,9 +304,9 @@ task_in (read.View v) = Viewing (view_in v)
 task_in (read.Show folder form) = Show (option_map (λ s. s.now) folder) form
 task_in (read.Random words) = Random (random_words_in words)
 task_in (read.Audit file form) = Audit (option_map (λ s. s.now) file) form
-task_in (read.Run nodes dir script tape tick form) =
+task_in (read.Run nodes dir script tape tick without form) =
     Run (option_map (λ s. s.now) nodes) (option_map (λ s. s.now) dir) (option_map (λ s. s.now) script)
-    (option_map (λ s. s.now) tape) (option_map (λ s. s.now) tick) form
+    (option_map (λ s. s.now) tape) (option_map (λ s. s.now) tick) (option_map (λ s. s.now) without) form
 task_in (read.Shell words) = Shell (shell_words_in words)
 task_in (read.Sweep file seed) = Sweep (option_map (λ s. s.now) file) (option_map (λ s. s.now) seed)
 task_in (read.Draw file words) = Draw (option_map (λ s. s.now) file) (cut_words_in words)

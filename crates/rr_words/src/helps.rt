@@ -196,7 +196,8 @@ SCRIPT that is - is standard input. Each node runs in threads, node P over the f
 DIR/P, which are made where they are missing. Printed is an answer for each line of the script, in
 its order: `ack P C.S REPLY`, `none P C.S`, or `look P NAME` and what the name is bound to. With
 --json each answer is an object. With --tape the folders have to be fresh, and what the nodes did is
-recorded for `rr audit`.
+recorded for `rr audit`. With --without the nodes that are named stay down, and their lines are
+unanswered. More than half of the nodes have to be left.
 
 Examples:
   rr run --nodes 3 --dir /tmp/nodes --script examples/three_clients.script
@@ -223,6 +224,10 @@ the last command that was unacknowledged once more, under its request number, so
 once. A node that is stopped goes down as by a crash, and opens its folder when it is started. Each
 node runs in threads over the folder DIR/P, as in `rr run`. The file DIR/requests keeps request
 numbers unique from one start to the next.
+
+With --without a cluster starts though a disk is broken: the nodes that are named are down, as by
+`stop`, and their folders are neither opened nor touched before `start`. More than half of the nodes
+have to be left.
 
 With -c each LINE is answered, in order, and nothing is read. Without --strict the status is 0
 whatever was answered. With it the shell ends at the first line that isn't answered as asked, with

@@ -2,7 +2,7 @@
 
 ghost use Rattle.std.specs.Prelude.{◌≡◌, IfOk, codes};
 ghost use Rattle.clap.specs.Words.{App, app_of, new_app};
-ghost use Rattle.rr_words.specs.Lines.{IsArg, IsLine, and_also, rr_line, schedule_lines, rr_settings, with_version, named_rule, told_line, sim_line, stats_line, check_line, show_line, migrate_line, word_rule, number_rule, option_rule, optional_number_rule, flag_rule, tick_rule, numbers_line, random_line, audit_line, run_line, lines_rule, asking_line, shell_line, sweep_line, draw_line, verify_line, export_line};
+ghost use Rattle.rr_words.specs.Lines.{IsArg, IsLine, and_also, rr_line, schedule_lines, rr_settings, with_version, named_rule, told_line, sim_line, stats_line, check_line, show_line, migrate_line, word_rule, number_rule, option_rule, optional_number_rule, flag_rule, tick_rule, without_rule, numbers_line, random_line, audit_line, run_line, lines_rule, asking_line, shell_line, sweep_line, draw_line, verify_line, export_line};
 
 use crate::helps;
 use clap::builder::ValueParser;
@@ -171,6 +171,19 @@ fn tick_arg<'a>(alloc: Global) -> Arg<'a>
         "Milliseconds between two ticks of a node, from 10 to 10000 [default: 50]",
         LEAST_TICK,
         MOST_TICK,
+    )
+}
+
+// The option for nodes that are left down.
+fn without_arg<'a>(alloc: Global) -> Arg<'a>
+    ensures { IsArg without_rule result }
+{
+    option_arg(
+        alloc,
+        "WITHOUT",
+        "without",
+        "Leaves these nodes down, as 1 or 1,2: their folders aren't touched",
+        false,
     )
 }
 
@@ -398,6 +411,7 @@ fn run_line<'a>(alloc: Global) -> Result<Command<'a>, AllocError>
     ))?
     .arg(option_arg(alloc, "TAPE", "tape", "Where the tape is written", false))?
     .arg(tick_arg(alloc))?
+    .arg(without_arg(alloc))?
     .arg(flag_arg(
         alloc,
         "JSON",
@@ -454,6 +468,7 @@ fn shell_line<'a>(alloc: Global) -> Result<Command<'a>, AllocError>
 {
     asking_line(alloc)?
         .arg(tick_arg(alloc))?
+        .arg(without_arg(alloc))?
         .arg(flag_arg(
             alloc,
             "STRICT",

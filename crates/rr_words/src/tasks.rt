@@ -58,6 +58,8 @@ pub struct ShellWords<'a> {
     pub client: Option<&'a str>,
     /// How many milliseconds are between two ticks of a node.
     pub tick: Option<&'a str>,
+    /// The nodes that are left down.
+    pub without: Option<&'a str>,
     /// The lines to answer. Where there are none, standard input has them.
     pub lines: Vec<&'a str>,
     /// Whether it ends at the first line that isn't answered as asked.
@@ -134,11 +136,20 @@ pub enum Task<'a> {
     Random(RandomWords<'a>),
     /// `rr audit [FILE] [--json]`: whether the events are what nodes do of the tape in this file, or else in standard input.
     Audit(Option<&'a str>, Form),
-    /// `rr run --nodes NODES --dir DIR --script SCRIPT [--tape TAPE] [--tick MILLISECONDS] [--json]`: a run of nodes in threads
-    /// by the script in this file, its tape into this file, and how many milliseconds are between two ticks of a node.
-    Run(Option<&'a str>, Option<&'a str>, Option<&'a str>, Option<&'a str>, Option<&'a str>, Form),
-    /// `rr shell [--nodes NODES] [--dir DIR] [--client CLIENT] [--tick MILLISECONDS] [-c LINE].. [--strict] [--json]`: a run of nodes in threads, whom
-    /// these lines or those of standard input ask as this client.
+    /// `rr run --nodes NODES --dir DIR --script SCRIPT [--tape TAPE] [--tick MILLISECONDS] [--without NODES] [--json]`: a run of
+    /// nodes in threads by the script in this file, its tape into this file, how many milliseconds are between two ticks of a node, and
+    /// the nodes that are left down.
+    Run(
+        Option<&'a str>,
+        Option<&'a str>,
+        Option<&'a str>,
+        Option<&'a str>,
+        Option<&'a str>,
+        Option<&'a str>,
+        Form,
+    ),
+    /// `rr shell [--nodes NODES] [--dir DIR] [--client CLIENT] [--tick MILLISECONDS] [--without NODES] [-c LINE].. [--strict] [--json]`: a
+    /// run of nodes in threads, whom these lines or those of standard input ask as this client.
     Shell(ShellWords<'a>),
     /// `rr sweep [FILE] --seed SEED`: what a node restarts with after a crash behind each device call of the schedule in
     /// this file, or else in standard input; with the seed of the words of the last ending.
@@ -312,6 +323,7 @@ fn run_task<'a>(matches: &ArgMatches<'a>) -> Task<'a>
         word_of(matches, "SCRIPT"),
         word_of(matches, "TAPE"),
         word_of(matches, "TICK"),
+        word_of(matches, "WITHOUT"),
         form_of(matches),
     )
 }
@@ -343,6 +355,7 @@ fn shell_task<'a>(alloc: Global, matches: &ArgMatches<'a>) -> Result<Task<'a>, A
         dir: word_of(matches, "DIR"),
         client: word_of(matches, "CLIENT"),
         tick: word_of(matches, "TICK"),
+        without: word_of(matches, "WITHOUT"),
         lines: words_of(alloc, matches, "LINE")?,
         strict: is_set(matches, "STRICT"),
         json: is_set(matches, "JSON"),
