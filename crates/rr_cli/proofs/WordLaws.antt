@@ -23,8 +23,8 @@ no_random words view is = absurd cc
 pub no_audit : (file : Option Text) (form : Form) (view : View) → Audit file form ≡ Viewing view → ⊥
 no_audit file form view is = absurd cc
 
-pub no_run : (nodes dir script tape tick : Option Text) (form : Form) (view : View) → Run nodes dir script tape tick form ≡ Viewing view → ⊥
-no_run nodes dir script tape tick form view is = absurd cc
+pub no_run : (nodes dir script tape tick without : Option Text) (form : Form) (view : View) → Run nodes dir script tape tick without form ≡ Viewing view → ⊥
+no_run nodes dir script tape tick without form view is = absurd cc
 
 pub no_shell : (words : ShellWords) (view : View) → Shell words ≡ Viewing view → ⊥
 no_shell words view is = absurd cc

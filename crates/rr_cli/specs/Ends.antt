@@ -355,8 +355,8 @@ pub data EndsBy (faults : Kinds) (task : Task) (from to : Readable) (status : �
       → EndsBy faults task from to status old new
   without_views : (view : View) → faults ≡ [] → task ≡ Viewing view → status ≡ 2 → new ≡ old
       → EndsBy faults task from to status old new
-  without_threads : (nodes dir script tape tick : Option Text) (form : Form) → faults ≡ []
-      → task ≡ Run nodes dir script tape tick form
+  without_threads : (nodes dir script tape tick without : Option Text) (form : Form) → faults ≡ []
+      → task ≡ Run nodes dir script tape tick without form
       → status ≡ 2 → new ≡ old
       → EndsBy faults task from to status old new
   without_shell : (words : ShellWords) → faults ≡ [] → task ≡ Shell words → status ≡ 2 → new ≡ old

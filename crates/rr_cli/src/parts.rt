@@ -25,8 +25,8 @@ main{flex:1;min-height:0;display:grid;grid-template-columns:minmax(0,1fr) 24rem}
 #legend .e{color:var(--est)}#legend .p{color:var(--pro)}#legend .a{color:var(--ack)}#legend .d{color:var(--dec)}#legend .q{color:var(--req)}#legend .o{color:var(--dim)}
 i.past{background:var(--past)}i.future{background:var(--future)}i.here{background:var(--here)}
 #view{display:flex;flex:1;min-height:0}
-#picture{flex:1;min-width:0;overflow:auto}
-#names{position:sticky;top:0;display:block;z-index:1;border-bottom:1px solid var(--rule)}
+#picture{flex:1;min-width:0;overflow:auto scroll}
+#names{position:sticky;top:0;display:block;z-index:1;box-sizing:content-box;border-bottom:1px solid var(--rule)}
 #sheet{position:relative}
 #scene{position:absolute;left:0}
 #strip{flex:none;width:40px;height:100%;border-left:1px solid var(--rule);cursor:pointer;touch-action:none}
@@ -35,9 +35,9 @@ aside pre{white-space:pre-wrap;overflow-wrap:anywhere;margin:.3rem 0;font-size:1
 aside p,aside ol,aside ul{margin:.2rem 0}
 .past-word{color:var(--past)}.future-word{color:var(--future)}.faint{color:var(--faint)}
 a{color:var(--link)}
-#scene g[data-line]{cursor:pointer}
+#scene g[data-line],#scene g[data-of]{cursor:pointer}
 #scene g[data-line]:focus{outline:none}
-#scene.filtered g[data-line]:not(.hit),#scene.chosen g[data-line]:not(.past):not(.future):not(.here){opacity:.15}
+#scene.filtered>g:not(.hit),#scene.chosen>g:not(.past):not(.future):not(.here){opacity:.15}
 #scene.filtered text.l,#scene.chosen text.l{opacity:.35}
 #scene.narrow text.l.r,#scene.tight text.l{display:none}
 #scene g.past rect.x{fill:var(--past);fill-opacity:.4}
@@ -92,93 +92,162 @@ pub(crate) const BACK: &[u8] = b"</noscript>
 \"use strict\";
 // The page's script. Its data are a line with the number of nodes and those that `rr sim --explain --json` prints of the events that are
 // on the page, with the instances that they decide. The picture is the one that `rr draw` prints.
-// Neither is walked as a whole after the page is open: what depends on what, and what is in sight, is looked up in tables.
+// Both stay text. They are walked once, and tables of numbers then say where what stands in them, what depends on what, and what is in
+// sight. An object is parsed where its event is chosen or listed, so a long run leaves few values behind, and a click waits for none.
 const at = (id) => document.getElementById(id);
 
 // Both stand in elements whose text a browser takes as it is, since that opens fastest.
-const objects = JSON.parse(`[${at(\"data\").textContent.trim().replaceAll(\"\\n\", \",\")}]`);
-const unspelled = (text) => text.replaceAll(\"&quot;\", '\"').replaceAll(\"&lt;\", \"<\").replaceAll(\"&gt;\", \">\").replaceAll(\"&amp;\", \"&\");
+const data = at(\"data\").textContent;
+const source = at(\"source\").textContent;
 const FIELDS = [\"words\", \"node\", \"kind\", \"instance\"];
 
-// An event: its line, its words, its kind and node, its place among its node's events, and the message that it sends or hears.
-const events = objects.filter((object) => object.event).map((object) => {
-  const { line, text, note } = object.event;
-  const words = text.split(\" \");
-  return { object, line, text, note, words, kind: words[0], node: Number(words[1]), rank: 0, message: object.kind === \"send\" ? object.message : undefined };
-});
-const place = new Map(events.map((event, index) => [event.line, index]));
+// The first place in ascending numbers that has this number or a greater one.
+function first_from(numbers, least) {
+  let [low, high] = [0, numbers.length];
+  while (low < high) {
+    const middle = (low + high) >> 1;
+    if (numbers[middle] < least) low = middle + 1;
+    else high = middle;
+  }
+  return low;
+}
 
-// The picture: its text, and the places of the nodes' lines from the left.
-const source = at(\"source\").textContent;
+// Of each event: where its object begins and ends in the data, and where in it the event is told; its line, its node, and its kind by
+// its place in `kinds`; and the number of the message that it sends or hears, or -1.
+const table = { begin: [], end: [], told: [], line: [], node: [], kind: [], sent: [], heard: [] };
+const kinds = [];
+// The objects that aren't of an event: the run's, and those of the decided commands.
+const others = [];
+
+// The words of data are spelled with backslashes before their quotes, so this stands in none of them.
+const TOLD = /\"event\":(\\{\"line\":(\\d+),\"text\":\"(\\w+) (\\d+)(?: (\\d+))?)/g;
+const SENDS = '{\"kind\":\"send\",\"number\":';
+const DONE = '{\"kind\":\"done\",';
+
+function kind_of(word) {
+  const place = kinds.indexOf(word);
+  return place >= 0 ? place : kinds.push(word) - 1;
+}
+
+function add_event(found, begin, end) {
+  const [whole, told, line, kind, node, message] = found;
+  table.begin.push(begin);
+  table.end.push(end);
+  table.told.push(found.index + whole.length - told.length);
+  table.line.push(Number(line));
+  table.node.push(Number(node));
+  table.kind.push(kind_of(kind));
+  table.sent.push(data.startsWith(SENDS, begin) ? Number.parseInt(data.slice(begin + SENDS.length, begin + SENDS.length + 12), 10) : -1);
+  table.heard.push(kind === \"hear\" && data.startsWith(DONE, begin) ? Number(message) : -1);
+}
+
+function read_data() {
+  let start = 0;
+  const add_others = (end) => {
+    for (const line of data.slice(start, end).split(\"\\n\")) if (line.startsWith(\"{\")) others.push(JSON.parse(line));
+  };
+  for (let found = TOLD.exec(data); found; found = TOLD.exec(data)) {
+    const begin = data.lastIndexOf(\"\\n\", found.index) + 1;
+    const end = data.indexOf(\"\\n\", found.index);
+    if (begin > start) add_others(begin);
+    add_event(found, begin, end);
+    start = end + 1;
+  }
+  add_others(data.length);
+  for (const [name, column] of Object.entries(table)) table[name] = new Int32Array(column);
+}
+
+read_data();
+const total = table.line.length;
+const { nodes } = others[0];
+
+// What the data have of an event: all of it, or its line, text and note alone.
+const object_of = (index) => JSON.parse(data.slice(table.begin[index], table.end[index]));
+const told_of = (index) => JSON.parse(data.slice(table.told[index], table.end[index] - 1));
+
+// The event on a line, if the page has it.
+function place_of(line) {
+  const index = first_from(table.line, line);
+  return table.line[index] === line ? index : undefined;
+}
+
+// The picture's beginning, and the places of the nodes' lines from the left.
 const body = source.indexOf('<path class=\"z\"');
 const front = source.slice(0, body);
 const origins = [...source.slice(0, body + 4000).matchAll(/<text class=\"h\" x=\"(\\d+)\"/g)].map((found) => Number(found[1]));
-const { nodes } = objects[0];
 let [, full_width, height] = /viewBox=\"0 0 (\\d+) (\\d+)\"/.exec(front).map(Number);
 
-// What an event stands on directly: the event before it at its node and, of a message that is heard, where that was sent.
-let [previous, following, sending] = [0, 1, 2].map(() => new Int32Array(events.length).fill(-1));
-const hearings = new Map();
+// What an event stands on directly: the event before it at its node and, of a message that is heard, where that was sent. The first
+// event that hears what an event sends, and the one that hears it again behind that. An event's place among its node's.
+let [previous, following, sending, first_hearing, next_hearing, rank] = [0, 1, 2, 3, 4, 5].map(() => new Int32Array(total).fill(-1));
 const counts = new Int32Array(nodes);
 
 function find_causes() {
   const sends = new Map();
   const last = new Int32Array(nodes).fill(-1);
-  events.forEach((event, index) => {
-    previous[index] = last[event.node];
-    if (last[event.node] >= 0) following[last[event.node]] = index;
-    last[event.node] = index;
-    event.rank = counts[event.node]++;
-    if (event.object.kind === \"send\") sends.set(event.object.number, index);
-    const sent = event.kind === \"hear\" && event.object.kind === \"done\" ? sends.get(Number(event.words[2])) : undefined;
-    if (sent === undefined) return;
-    sending[index] = sent;
-    event.message = events[sent].message;
-    if (!hearings.has(sent)) hearings.set(sent, []);
-    hearings.get(sent).push(index);
-  });
+  for (let index = 0; index < total; index += 1) {
+    const node = table.node[index];
+    previous[index] = last[node];
+    if (last[node] >= 0) following[last[node]] = index;
+    last[node] = index;
+    rank[index] = counts[node]++;
+    if (table.sent[index] >= 0) sends.set(table.sent[index], index);
+    if (table.heard[index] >= 0) sending[index] = sends.get(table.heard[index]) ?? -1;
+  }
+  for (let index = total - 1; index >= 0; index -= 1) {
+    const sent = sending[index];
+    if (sent >= 0) [next_hearing[index], first_hearing[sent]] = [first_hearing[sent], index];
+  }
 }
 
 find_causes();
-const causes = (index) => [...new Set([previous[index], sending[index]])].filter((cause) => cause >= 0).sort((one, other) => one - other);
-const effects = (index) => [...new Set([following[index], ...(hearings.get(index) ?? [])])].filter((effect) => effect >= 0).sort((one, other) => one - other);
+
+// Both are in order, and an event that stands on another in both ways is named once.
+const in_order = (indexes) => [...new Set(indexes)].filter((index) => index >= 0).sort((one, other) => one - other);
+const causes = (index) => in_order([previous[index], sending[index]]);
+
+function effects(index) {
+  const found = [following[index]];
+  for (let hearing = first_hearing[index]; hearing >= 0; hearing = next_hearing[hearing]) found.push(hearing);
+  return in_order(found);
+}
 
 // What an event depends on is, of each node, its first events: `before` has how many. What depends on it is each node's events
 // from one on: `after` has its rank.
-let [before, after] = [0, 1].map(() => new Int32Array(events.length * nodes));
+let [before, after] = [0, 1].map(() => new Int32Array(total * nodes));
 
 // An event depends on its cause, and on what that depends on.
 function join_before(index, cause) {
   if (cause < 0) return;
   const [to, from] = [index * nodes, cause * nodes];
   for (let node = 0; node < nodes; node += 1) if (before[from + node] > before[to + node]) before[to + node] = before[from + node];
-  const { node, rank } = events[cause];
-  if (rank >= before[to + node]) before[to + node] = rank + 1;
+  const own = to + table.node[cause];
+  if (rank[cause] >= before[own]) before[own] = rank[cause] + 1;
 }
 
 function join_after(cause, index) {
   if (cause < 0) return;
   const [to, from] = [cause * nodes, index * nodes];
   for (let node = 0; node < nodes; node += 1) if (after[from + node] < after[to + node]) after[to + node] = after[from + node];
-  const { node, rank } = events[index];
-  if (rank < after[to + node]) after[to + node] = rank;
+  const own = to + table.node[index];
+  if (rank[index] < after[own]) after[own] = rank[index];
 }
 
 function find_clocks() {
-  for (let index = 0; index < events.length; index += 1) {
+  for (let index = 0; index < total; index += 1) {
     after.set(counts, index * nodes);
     join_before(index, previous[index]);
     join_before(index, sending[index]);
   }
-  for (let index = events.length - 1; index >= 0; index -= 1) {
+  for (let index = total - 1; index >= 0; index -= 1) {
     join_after(previous[index], index);
     join_after(sending[index], index);
   }
 }
 
 find_clocks();
-const is_past = (index, of) => events[index].rank < before[of * nodes + events[index].node];
-const is_future = (index, of) => events[index].rank >= after[of * nodes + events[index].node];
+const is_past = (index, of) => rank[index] < before[of * nodes + table.node[index]];
+const is_future = (index, of) => rank[index] >= after[of * nodes + table.node[index]];
 
 function sizes(index) {
   let [past, future] = [0, 0];
@@ -189,77 +258,82 @@ function sizes(index) {
   return [past, future];
 }
 
-// What an event speaks of: its client, request, name and instance, as far as its words and its message have them.
-for (const event of events) {
-  const { object, words, message } = event;
+// What the events speak of: their clients, requests, names and instances, as far as their words and messages have them. One that hears a
+// message speaks of what that does. It is found when somebody first searches for it.
+let spoken;
+
+function words_of(index) {
+  const { event, message, ...object } = object_of(index);
   const command = message?.command;
-  const is_submit = event.kind === \"submit\";
-  event.instance = message?.instance;
-  event.client = command?.client ?? object.client ?? (is_submit ? Number(words[2]) : undefined);
-  event.request = command?.request ?? object.request ?? (is_submit ? Number(words[3]) : undefined);
-  event.name = command?.name ?? (is_submit ? words[5] : undefined);
+  const words = kinds[table.kind[index]] === \"submit\" ? event.text.split(\" \") : [];
+  const client = command?.client ?? object.client ?? words[2];
+  const request = client === undefined ? \"\" : `${client}.${command?.request ?? object.request ?? words[3]}`;
+  return { client: String(client ?? \"\"), request, name: command?.name ?? words[5] ?? \"\", instance: String(message?.instance ?? \"\") };
+}
+
+function find_spoken() {
+  spoken = { client: [], request: [], name: [], instance: [] };
+  const fields = Object.entries(spoken);
+  for (let index = 0; index < total; index += 1) {
+    const sent = sending[index];
+    const words = sent < 0 ? words_of(index) : undefined;
+    for (const [field, column] of fields) column.push(words ? words[field] : column[sent]);
+  }
 }
 
 // The event that decided an instance, by the instance: the run says which.
-const decisions = new Map(events.flatMap(({ object }, index) => object.decides === undefined ? [] : [[object.decides, index]]));
+const decisions = new Map([...data.matchAll(/\"decides\":(\\d+)/g)].map((found) => [Number(found[1]), first_from(table.begin, found.index + 1) - 1]));
 
 // The picture's items in their order: marks of a line each, and elements of an event each. Of each: where its text begins and
-// ends, how far down it reaches from and to, and its event. `items` has the item of each event, or -1 where a cut leaves it out.
-let [begins, ends, tops, bottoms, owners] = [[], [], [], [], []];
-const items = new Int32Array(events.length).fill(-1);
+// ends, how far down it reaches from and to, and its event or -1. `items` has the item of each event, or -1 where a cut leaves it
+// out, and `heights` how far down the event is.
+const art = { begin: [], end: [], top: [], bottom: [], owner: [] };
+let [items, heights] = [new Int32Array(total).fill(-1), new Int32Array(total)];
+const is_shown = (index) => items[index] >= 0;
 
-// How far down the numbers of shapes reach: those of marks and boxes, and of paths. Words have none of a path.
-const HEIGHTS = / c?y[12]?=\"(\\d+)\"(?: width=\"\\d+\" height=\"(\\d+)\")?|[MC ]\\d+ (\\d+)|V(\\d+)/g;
-const HEIGHT = / y=\"(\\d+)\"/;
+// How far down a mark reaches from and to: a node's line, a box, the arrow of a message that nobody hears, or words.
+const MARK = /M\\d+ (\\d+)V(\\d+)|y=\"(\\d+)\" width=\"\\d+\" height=\"(\\d+)\"|y1=\"(\\d+)\" x2=\"\\d+\" y2=\"(\\d+)\"| y=\"(\\d+)\"/;
 
-// Where shapes begin and end, from above.
-function extent(shapes) {
-  if (shapes.startsWith(\"<text\")) {
-    const y = Number(HEIGHT.exec(shapes)[1]);
-    return [y, y];
-  }
-  let [top, bottom] = [Infinity, 0];
-  HEIGHTS.lastIndex = 0;
-  for (let found = HEIGHTS.exec(shapes); found; found = HEIGHTS.exec(shapes)) {
-    const y = Number(found[1] ?? found[3] ?? found[4]);
-    top = Math.min(top, y);
-    bottom = Math.max(bottom, y + Number(found[2] ?? 0));
-  }
-  return [top, bottom];
-}
-
-// The place of an event's element that is clicked. What is drawn before it are the shapes that may reach far up.
+// The place of an event's element that is clicked. Before it may stand an arrow, which comes from far: how far down that begins.
 const BOX = /<rect class=\"x\" x=\"\\d+\" y=\"(\\d+)\" width=\"\\d+\" height=\"(\\d+)\"/g;
+const ARROW = /<line [^>]* y1=\"(\\d+)\"|<path [^>]*d=\"M\\d+ (\\d+)C/y;
 
 function keep_item(begin, end, top, bottom, index) {
-  begins.push(begin);
-  ends.push(end);
-  tops.push(top - 8);
-  bottoms.push(bottom + 8);
-  owners.push(index);
+  art.begin.push(begin);
+  art.end.push(end);
+  art.top.push(top - 8);
+  art.bottom.push(bottom + 8);
+  art.owner.push(index);
 }
 
+// The events that have an element, in their order. No two are as far down.
+const shown = { index: [], height: [] };
+
+// The arrow of a message that nobody hears stands apart from the event that sends it, and begins as far down.
 function read_mark(begin, end) {
-  const [top, bottom] = extent(source.slice(begin, end));
-  keep_item(begin, end, top, bottom, -1);
+  const [, line, foot, box, tall, sent, lost, word] = MARK.exec(source.slice(begin, end))?.map(Number) ?? [];
+  if (sent >= 0) keep_item(begin, end, sent, lost, shown.index[first_from(shown.height, sent)] ?? -1);
+  else if (line >= 0) keep_item(begin, end, line, foot, -1);
+  else if (box >= 0) keep_item(begin, end, box, box + tall, -1);
+  else keep_item(begin, end, word, word, -1);
 }
 
 function read_event(begin, end) {
-  const index = place.get(Number.parseInt(source.slice(begin + 15, begin + 30), 10)) ?? -1;
+  const index = place_of(Number.parseInt(source.slice(begin + 15, begin + 30), 10)) ?? -1;
   const shapes = source.indexOf(\"</title>\", begin) + \"</title>\".length;
   BOX.lastIndex = shapes;
   const box = BOX.exec(source);
+  ARROW.lastIndex = shapes;
+  const arrow = ARROW.exec(source);
   const y = Number(box[1]);
-  let [top, bottom] = [y, y + Number(box[2])];
-  if (box.index > shapes) {
-    const [above, below] = extent(source.slice(shapes, box.index));
-    [top, bottom] = [Math.min(top, above), Math.max(bottom, below)];
-  }
+  const top = Math.min(y, Number(arrow?.[1] ?? arrow?.[2] ?? y));
   if (index >= 0) {
-    items[index] = begins.length;
-    events[index].y = y + 2;
+    items[index] = art.begin.length;
+    heights[index] = y + 2;
+    shown.index.push(index);
+    shown.height.push(y + 2);
   }
-  keep_item(begin, end, top, bottom, index);
+  keep_item(begin, end, top, y + Number(box[2]), index);
 }
 
 function read_items() {
@@ -272,6 +346,7 @@ function read_items() {
     else if (!is_head) read_mark(begin, end);
     begin = end + 1;
   }
+  for (const [name, column] of Object.entries(art)) art[name] = new Int32Array(column);
 }
 
 // The items by their height: level k has those that are lower than SLOT times 2^k, in slots as high, each in the slot of its top.
@@ -279,10 +354,10 @@ const SLOT = 256;
 const levels = [];
 
 function fill_levels() {
-  for (let item = 0; item < begins.length; item += 1) {
-    const level = Math.max(0, Math.ceil(Math.log2((bottoms[item] - tops[item] + 1) / SLOT)));
+  for (let item = 0; item < art.begin.length; item += 1) {
+    const level = Math.max(0, Math.ceil(Math.log2((art.bottom[item] - art.top[item] + 1) / SLOT)));
     while (levels.length <= level) levels.push(new Map());
-    const slot = Math.floor(tops[item] / (SLOT * 2 ** level));
+    const slot = Math.floor(art.top[item] / (SLOT * 2 ** level));
     if (!levels[level].has(slot)) levels[level].set(slot, []);
     levels[level].get(slot).push(item);
   }
@@ -294,7 +369,7 @@ function items_within(top, bottom) {
   levels.forEach((slots, level) => {
     const tall = SLOT * 2 ** level;
     for (let slot = Math.floor(top / tall) - 1; slot <= Math.floor(bottom / tall); slot += 1) {
-      for (const item of slots.get(slot) ?? []) if (tops[item] <= bottom && bottoms[item] >= top) found.push(item);
+      for (const item of slots.get(slot) ?? []) if (art.top[item] <= bottom && art.bottom[item] >= top) found.push(item);
     }
   });
   return found.sort((one, other) => one - other);
@@ -304,25 +379,30 @@ read_items();
 fill_levels();
 
 // How far down the events are that crash a node, and those that decide an instance.
-const crash_heights = events.filter((event) => event.kind === \"crash\" && event.y).map((event) => event.y);
-const decided_heights = [...decisions.values()].map((index) => events[index].y).filter((y) => y);
+const heights_of = (indexes) => indexes.filter(is_shown).map((index) => heights[index]);
+const crash_heights = heights_of(shown.index.filter((index) => kinds[table.kind[index]] === \"crash\"));
+const decided_heights = heights_of([...decisions.values()]);
 
 function title_of(index) {
   const item = items[index];
   if (item < 0) return \"\";
-  const begin = begins[item] + \"<g><title>\".length;
+  const begin = art.begin[item] + \"<g><title>\".length;
   return source.slice(begin, source.indexOf(\"</title>\", begin)).trim();
 }
 
 // How the picture is laid out: the size of a unit in pixels, how many units are across, and where the nodes' lines are. Where
 // there is less room than the picture wants, the lines stand nearer to each other, and everything beside them keeps its size.
 const FIRST = 50;
+// Browsers show no element that is much taller than this.
+const TALLEST = 16e6;
 let zoom = 1;
 let layout;
 
-function lay_out() {
-  const room = at(\"picture\").clientWidth;
+// Lays the picture out, with this height in the middle of what is in sight.
+function lay_out(middle) {
+  const { clientWidth: room, clientHeight: tall } = at(\"picture\");
   const base = room < 500 ? 1.2 : 1.5;
+  zoom = Math.min(zoom, TALLEST / (base * height));
   const unit = base * zoom;
   const width = Math.min(full_width, (room / base) * Math.max(zoom, 1 / zoom));
   const share = width / full_width;
@@ -330,10 +410,11 @@ function lay_out() {
   const left = Math.max(64, origins[0] * share);
   const gap = nodes > 1 ? Math.max(14, (width - left - right) / (nodes - 1)) : 0;
   const columns = share === 1 ? origins : origins.map((_, node) => Math.round(left + gap * node));
-  layout = { unit, width: share === 1 ? full_width : Math.max(width, columns.at(-1) + 20), columns, gap: share === 1 ? 220 : gap };
+  layout = { room, tall, unit, width: share === 1 ? full_width : Math.max(width, columns.at(-1) + 20), columns, gap: share === 1 ? 220 : gap };
   draw_names();
   at(\"sheet\").style.width = `${layout.width * unit}px`;
   at(\"sheet\").style.height = `${(height - FIRST) * unit}px`;
+  at(\"picture\").scrollTop = (middle - FIRST) * unit - tall / 2;
   drawn = undefined;
   draw_window();
   draw_lanes();
@@ -363,9 +444,53 @@ function laid_out(markup) {
     .replace(/ d=\"[^\"]*\"/g, (path) => path.replace(/(\\d+) (\\d+)/g, (_, x, y) => `${x_of(Number(x))} ${y}`));
 }
 
+// What reaches far out of sight is cut, since a browser takes seconds to draw a dashed line that is as long as a run. Of a line
+// and of a bow, where both are at a height; a bow goes down as 3t^2 - 2t^3 does.
+const held = (y, low, high) => Math.min(high, Math.max(low, y));
+const mix = (one, other, share) => one + (other - one) * share;
+const along_line = (y, y1, y2) => (y - y1) / (y2 - y1);
+const along_bow = (y, y1, y2) => 0.5 - Math.sin(Math.asin(1 - 2 * held(along_line(y, y1, y2), 0, 1)) / 3);
+
+function cut_line([x1, y1, x2, y2], low, high) {
+  const [begin, end] = [held(y1, low, high), held(y2, low, high)];
+  const x_at = (y) => mix(x1, x2, along_line(y, y1, y2)).toFixed(2);
+  return `x1=\"${x_at(begin)}\" y1=\"${begin}\" x2=\"${x_at(end)}\" y2=\"${end}\"`;
+}
+
+// The part of a cubic curve is one: each of its corners is mixed of the whole one's by three shares.
+function corner(corners, ...shares) {
+  const mixed = (points, share) => points.slice(1).map((point, place) => mix(points[place], point, share));
+  return shares.reduce(mixed, corners)[0].toFixed(2);
+}
+
+function cut_bow([x, y1, bow, y2], low, high) {
+  const [begin, end] = [low, high].map((y) => along_bow(y, y1, y2));
+  const at_shares = (...shares) => `${corner([x, bow, bow, x], ...shares)} ${corner([y1, y1, y2, y2], ...shares)}`;
+  return `M${at_shares(begin, begin, begin)}C${at_shares(begin, begin, end)} ${at_shares(begin, end, end)} ${at_shares(end, end, end)}`;
+}
+
+function cut_out(markup, low, high) {
+  const cut = (y) => held(Number(y), low, high);
+  return markup
+    .replace(/x1=\"(\\d+)\" y1=\"(\\d+)\" x2=\"(\\d+)\" y2=\"(\\d+)\"/, (_, ...ends) => cut_line(ends.slice(0, 4).map(Number), low, high))
+    .replace(/M(\\d+) (\\d+)C(\\d+) \\d+ \\d+ (\\d+) \\d+ \\d+/, (_, ...ends) => cut_bow(ends.slice(0, 4).map(Number), low, high))
+    .replace(/(M\\d+) (\\d+)V(\\d+)/, (_, begin, y1, y2) => `${begin} ${cut(y1)}V${cut(y2)}`)
+    .replace(/ y=\"(\\d+)\"( width=\"\\d+\") height=\"(\\d+)\"/g, (_, y, width, tall) => ` y=\"${cut(y)}\"${width} height=\"${cut(Number(y) + Number(tall)) - cut(y)}\"`);
+}
+
+// The heights that are drawn, and an item as it is laid out there.
+let drawn;
+const REACH = 60;
+
+function shapes_of(item, markup) {
+  const [low, high] = [drawn.top - REACH, drawn.bottom + REACH];
+  const shapes = laid_out(markup);
+  return art.top[item] < low || art.bottom[item] > high ? cut_out(shapes, low, high) : shapes;
+}
+
 // What is chosen and found: the event that keys go on from, whether it is marked with what depends on it, and which events match.
 let [chosen, is_marked, is_filtered, matches] = [undefined, false, false, []];
-const hits = new Uint8Array(events.length);
+const hits = new Uint8Array(total);
 
 function classes_of(index) {
   const classes = hits[index] && is_filtered ? [\"hit\"] : [];
@@ -376,17 +501,16 @@ function classes_of(index) {
 }
 
 function markup_of(item) {
-  const markup = source.slice(begins[item], ends[item]);
-  const index = owners[item];
-  if (index < 0) return laid_out(markup);
+  const markup = source.slice(art.begin[item], art.end[item]);
+  const index = art.owner[item];
+  if (index < 0) return shapes_of(item, markup);
+  if (items[index] !== item) return `<g class=\"${classes_of(index)}\" data-of=\"${table.line[index]}\">${shapes_of(item, markup)}</g>`;
   const name = title_of(index).replaceAll(\"\\n\", \"; \");
   const is_here = is_marked && index === chosen;
-  return `<g class=\"${classes_of(index)}\" data-line=\"${events[index].line}\" role=\"button\" tabindex=\"${is_here ? 0 : -1}\" aria-pressed=\"${is_here}\" aria-label=\"${name}\">${laid_out(markup.slice(3))}`;
+  return `<g class=\"${classes_of(index)}\" data-line=\"${table.line[index]}\" role=\"button\" tabindex=\"${is_here ? 0 : -1}\" aria-pressed=\"${is_here}\" aria-label=\"${name}\">${shapes_of(item, markup.slice(3))}`;
 }
 
-// The heights that are drawn, and those that are in sight.
-let drawn;
-
+// The heights that are in sight.
 function sight() {
   const { scrollTop, clientHeight } = at(\"picture\");
   const top = FIRST + scrollTop / layout.unit;
@@ -399,11 +523,12 @@ function set_states() {
   for (const [name, holds] of Object.entries(states)) at(\"scene\").classList.toggle(name, holds);
 }
 
-// Makes the elements of what is in sight, and of as much above and below it. What is drawn stays where it is enough; it tells which.
+// Makes the elements of what is in sight, and of half as much above and below it. What is drawn stays where it is enough; it tells which.
 function draw_window() {
   const { top, bottom } = sight();
   if (drawn && drawn.top <= Math.max(FIRST, top) && drawn.bottom >= Math.min(height, bottom)) return false;
-  drawn = { top: Math.max(FIRST, Math.floor(2 * top - bottom)), bottom: Math.min(height, Math.ceil(2 * bottom - top)) };
+  const margin = (bottom - top) / 2;
+  drawn = { top: Math.max(FIRST, Math.floor(top - margin)), bottom: Math.min(height, Math.ceil(bottom + margin)) };
   const { unit, width, columns } = layout;
   const svg = at(\"scene\");
   const had_focus = svg.contains(document.activeElement);
@@ -419,10 +544,11 @@ function draw_window() {
 // Gives what is drawn the classes that it has now.
 function restyle() {
   set_states();
-  for (const shape of at(\"scene\").querySelectorAll(\"g[data-line]\")) {
-    const index = place.get(Number(shape.dataset.line));
+  for (const shape of at(\"scene\").querySelectorAll(\"g[data-line],g[data-of]\")) {
+    const index = place_of(Number(shape.dataset.line ?? shape.dataset.of));
     const classes = classes_of(index);
     if (shape.getAttribute(\"class\") !== classes) shape.setAttribute(\"class\", classes);
+    if (shape.dataset.of) continue;
     const is_here = is_marked && index === chosen;
     if (is_here === (shape.tabIndex === 0)) continue;
     shape.setAttribute(\"tabindex\", is_here ? 0 : -1);
@@ -435,7 +561,7 @@ function redraw() {
   draw_strip();
 }
 
-const shape_of = (index) => index === undefined ? null : at(\"scene\").querySelector(`g[data-line=\"${events[index].line}\"]`);
+const shape_of = (index) => index === undefined ? null : at(\"scene\").querySelector(`g[data-line=\"${table.line[index]}\"]`);
 
 // The strip of the whole run has three lanes: decisions, crashes, and what is marked or found. A frame is around what is in sight.
 function draw_lane(brush, left, heights, color) {
@@ -464,12 +590,11 @@ function draw_lanes() {
   draw_lane(brush, 2, decided_heights, color_of(\"--dec\"));
   draw_lane(brush, 14, crash_heights, color_of(\"--bad\"));
   const cells = strip.height * nodes;
-  rows = { first: new Int32Array(cells).fill(events.length), last: new Int32Array(cells).fill(-1), lanes: brush.getImageData(0, 0, strip.width, strip.height) };
-  for (const { y, node, rank } of events) {
-    if (!y) continue;
-    const cell = Math.floor((y - FIRST) / (height - FIRST) * strip.height) * nodes + node;
-    rows.first[cell] = Math.min(rows.first[cell], rank);
-    rows.last[cell] = Math.max(rows.last[cell], rank);
+  rows = { first: new Int32Array(cells).fill(total), last: new Int32Array(cells).fill(-1), lanes: brush.getImageData(0, 0, strip.width, strip.height) };
+  for (const index of shown.index) {
+    const cell = Math.floor((heights[index] - FIRST) / (height - FIRST) * strip.height) * nodes + table.node[index];
+    rows.first[cell] = Math.min(rows.first[cell], rank[index]);
+    rows.last[cell] = Math.max(rows.last[cell], rank[index]);
   }
 }
 
@@ -491,7 +616,7 @@ function draw_strip() {
   const brush = strip.getContext(\"2d\", { willReadFrequently: true });
   brush.putImageData(rows.lanes, 0, 0);
   if (is_marked) draw_marked(brush);
-  else if (is_filtered) draw_lane(brush, 26, matches.map((index) => events[index].y).filter((y) => y), color_of(\"--link\"));
+  else if (is_filtered) draw_lane(brush, 26, heights_of(matches), color_of(\"--link\"));
   strip.lanes = brush.getImageData(0, 0, strip.width, strip.height);
   draw_frame();
 }
@@ -508,7 +633,7 @@ function draw_frame() {
   brush.fillRect(0, row(top), strip.width, Math.max(3, row(bottom) - row(top)));
   brush.globalAlpha = 1;
   brush.strokeRect(0.5, row(top), strip.width - 1, Math.max(3, row(bottom) - row(top)));
-  if (is_marked && events[chosen].y) brush.fillRect(0, row(events[chosen].y), strip.width, 2);
+  if (is_marked && is_shown(chosen)) brush.fillRect(0, row(heights[chosen]), strip.width, 2);
 }
 
 // Goes to where the pointer is on the strip.
@@ -547,9 +672,9 @@ function element(name, text, ...inside) {
   return made;
 }
 
-function link(index, text = `line ${events[index].line}: ${events[index].text}`) {
+function link(index, text = `line ${table.line[index]}: ${told_of(index).text}`) {
   const made = element(\"a\", text);
-  made.href = `#line=${events[index].line}`;
+  made.href = `#line=${table.line[index]}`;
   return made;
 }
 
@@ -560,21 +685,19 @@ function list(indexes) {
 }
 
 // The title of an event as a reader sees it.
-function title_text(index) {
-  return unspelled(title_of(index));
-}
+const title_text = (index) => title_of(index).replaceAll(\"&quot;\", '\"').replaceAll(\"&lt;\", \"<\").replaceAll(\"&gt;\", \">\").replaceAll(\"&amp;\", \"&\");
 
 function describe(index) {
-  const event = events[index];
+  const { event, ...told } = object_of(index);
+  const sent = sending[index];
   const [past, future] = sizes(index);
-  const { event: _, ...told } = event.object;
   const parts = [element(\"h2\", `Line ${event.line}`), element(\"pre\", event.text)];
   if (event.note) parts.push(element(\"p\", event.note));
   if (told.decides !== undefined) parts.push(element(\"p\", `It decides instance ${told.decides}.`));
   const lines = title_text(index).split(\"\\n\").slice(1).join(\"\\n\");
   if (lines) parts.push(element(\"pre\", lines));
   if (told.kind !== \"done\" && told.kind !== \"idle\") parts.push(element(\"pre\", JSON.stringify(told, null, 1)));
-  if (event.kind === \"hear\" && event.message) parts.push(element(\"pre\", JSON.stringify(event.message, null, 1)));
+  if (sent >= 0) parts.push(element(\"pre\", JSON.stringify(object_of(sent).message, null, 1)));
   const causes_words = element(\"h2\", `It depends on ${past} events, directly on`);
   causes_words.className = \"past-word\";
   const effects_words = element(\"h2\", `${future} events depend on it, directly`);
@@ -585,54 +708,63 @@ function describe(index) {
 
 // Scrolls to an event, if the picture has it and it isn't well in sight.
 function show(index) {
-  const { y } = events[index];
+  const y = heights[index];
   const { top, bottom } = sight();
-  if (y && (y < top + 10 || y > bottom - 20)) at(\"picture\").scrollTop = (y - FIRST - (bottom - top) / 2) * layout.unit;
+  if (is_shown(index) && (y < top + 10 || y > bottom - 20)) at(\"picture\").scrollTop = (y - FIRST - (bottom - top) / 2) * layout.unit;
 }
 
 function choose(index, focus = true) {
   chosen = index;
   is_marked = true;
-  describe(index);
   show(index);
   redraw();
+  describe(index);
   if (focus) shape_of(index)?.focus({ preventScroll: true });
-  const address = `#line=${events[index].line}`;
+  const address = `#line=${table.line[index]}`;
   if (location.hash !== address) history.replaceState(null, \"\", address);
 }
 
-// Whether an event has what is searched for, and passes the filters.
-function is_match(event, index, wanted) {
-  const { words, field, node, kind, instance } = wanted;
-  if (node !== \"\" && String(event.node) !== node) return false;
-  if (kind !== \"\" && event.kind !== kind) return false;
-  if (instance !== \"\" && String(event.instance ?? \"\") !== instance) return false;
-  if (words === \"\") return true;
-  const request = event.client === undefined ? \"\" : `${event.client}.${event.request}`;
-  if (field !== \"any\") return String((field === \"request\" ? request : event[field]) ?? \"\") === words;
-  return [event.text, event.note ?? \"\", request, event.name ?? \"\"].some((text) => text.includes(words)) || title_of(index).includes(wanted.spelled);
+// Whether the words of an event, or what is told of it, have what is searched for. The data's spelling is looked at first.
+function is_told(index, { words, in_data, in_picture }) {
+  if (spoken.request[index].includes(words) || spoken.name[index].includes(words) || title_of(index).includes(in_picture)) return true;
+  if (!data.slice(table.told[index], table.end[index]).includes(in_data)) return false;
+  const { text, note } = told_of(index);
+  return text.includes(words) || (note ?? \"\").includes(words);
 }
 
-const spelled = (text) => text.replaceAll(\"&\", \"&amp;\").replaceAll(\"<\", \"&lt;\").replaceAll(\">\", \"&gt;\").replaceAll('\"', \"&quot;\");
+// Whether an event has what is searched for, and passes the filters.
+function is_match(index, wanted) {
+  const { words, field, node, kind, instance } = wanted;
+  if (node !== \"\" && String(table.node[index]) !== node) return false;
+  if (kind !== \"\" && kinds[table.kind[index]] !== kind) return false;
+  if (instance !== \"\" && spoken.instance[index] !== instance) return false;
+  if (words === \"\") return true;
+  return field === \"any\" ? is_told(index, wanted) : spoken[field][index] === words;
+}
+
+// How words are spelled in the picture, and in the data.
+const spelled_in_picture = (text) => text.replaceAll(\"&\", \"&amp;\").replaceAll(\"<\", \"&lt;\").replaceAll(\">\", \"&gt;\").replaceAll('\"', \"&quot;\");
+const spelled_in_data = (text) => JSON.stringify(text).slice(1, -1).replaceAll(\"<\", \"\\\\u003c\");
 
 function filter() {
   const wanted = Object.fromEntries([...FIELDS, \"field\"].map((id) => [id, at(id).value.trim()]));
-  wanted.spelled = spelled(wanted.words);
+  Object.assign(wanted, { in_data: spelled_in_data(wanted.words), in_picture: spelled_in_picture(wanted.words) });
   is_filtered = FIELDS.some((id) => wanted[id] !== \"\");
+  if (!spoken && (wanted.words !== \"\" || wanted.instance !== \"\")) find_spoken();
   matches = [];
-  events.forEach((event, index) => {
-    hits[index] = is_match(event, index, wanted) ? 1 : 0;
+  for (let index = 0; index < total; index += 1) {
+    hits[index] = is_match(index, wanted) ? 1 : 0;
     if (hits[index]) matches.push(index);
-  });
+  }
   is_marked = false;
-  at(\"count\").textContent = is_filtered ? `${matches.length} of ${events.length} events` : `${events.length} events`;
+  at(\"count\").textContent = is_filtered ? `${matches.length} of ${total} events` : `${total} events`;
   redraw();
 }
 
-// Goes to the next match behind the chosen event, or to the one before it.
+// Goes to the next match behind the chosen event, or to the one before it; behind the last comes the first.
 function go(step, focus = true) {
-  const here = chosen ?? (step > 0 ? -1 : events.length);
-  const next = step > 0 ? matches.find((index) => index > here) ?? matches[0] : matches.findLast((index) => index < here) ?? matches.at(-1);
+  const here = chosen ?? (step > 0 ? -1 : total);
+  const next = step > 0 ? matches[first_from(matches, here + 1)] ?? matches[0] : matches[first_from(matches, here) - 1] ?? matches.at(-1);
   if (next !== undefined) choose(next, focus);
 }
 
@@ -642,22 +774,27 @@ function clear() {
   filter();
 }
 
-// Makes the picture larger or smaller, or fits it; the middle of what is in sight stays there.
+const middle_in_sight = () => FIRST + (at(\"picture\").scrollTop + layout.tall / 2) / layout.unit;
+
+// Makes the picture larger or smaller, or fits it.
 function scale(factor) {
-  const { top, bottom } = sight();
   zoom = factor === 0 ? 1 : Math.min(8, Math.max(0.1, zoom * factor));
-  lay_out();
-  at(\"picture\").scrollTop = ((top + bottom) / 2 - FIRST) * layout.unit - at(\"picture\").clientHeight / 2;
+  lay_out(middle_in_sight());
+}
+
+function follow_size() {
+  const { clientWidth, clientHeight } = at(\"picture\");
+  if (clientWidth !== layout.room || clientHeight !== layout.tall) lay_out(middle_in_sight());
 }
 
 function follow_address() {
   const found = /^#line=(\\d+)$/.exec(location.hash);
-  const index = found && place.get(Number(found[1]));
-  if (index !== null && index !== undefined) choose(index);
+  const index = found ? place_of(Number(found[1])) : undefined;
+  if (index !== undefined) choose(index);
 }
 
 // The decided commands, each with the event that decided it where that is known. Many are shown when they are asked for.
-const commands = objects.filter((object) => object.kind === \"command\");
+const commands = others.filter((object) => object.kind === \"command\");
 const MANY = 200;
 
 function command_item({ place: instance, command }) {
@@ -680,15 +817,15 @@ function show_commands(from) {
 
 function fill_choices() {
   for (let node = 0; node < nodes; node += 1) at(\"node\").append(new Option(String(node), String(node)));
-  for (const kind of new Set(events.map((event) => event.kind))) at(\"kind\").append(new Option(kind, kind));
+  for (const kind of kinds) at(\"kind\").append(new Option(kind, kind));
   show_commands(0);
   if (commands.length === 0) at(\"decided\").append(element(\"p\", \"none\"));
-  at(\"scene\").setAttribute(\"aria-label\", `${events.length} events`);
+  at(\"scene\").setAttribute(\"aria-label\", `${total} events`);
 }
 
 const actions = {
-  ArrowDown: () => choose(Math.min(events.length - 1, (chosen ?? -1) + 1)),
-  ArrowUp: () => choose(Math.max(0, (chosen ?? events.length) - 1)),
+  ArrowDown: () => choose(Math.min(total - 1, (chosen ?? -1) + 1)),
+  ArrowUp: () => choose(Math.max(0, (chosen ?? total) - 1)),
   n: () => go(1),
   p: () => go(-1),
   \"/\": () => at(\"words\").focus(),
@@ -703,7 +840,7 @@ function follow_key(key) {
   if (key.key === \"Escape\") {
     clear();
     at(\"picture\").focus();
-  } else if (!is_typing && actions[key.key] && events.length > 0) {
+  } else if (!is_typing && actions[key.key] && total > 0) {
     key.preventDefault();
     actions[key.key]();
   }
@@ -717,8 +854,8 @@ function follow_wheel(wheel) {
 
 function listen() {
   at(\"scene\").addEventListener(\"click\", (click) => {
-    const shape = click.target.closest(\"g[data-line]\");
-    if (shape) choose(place.get(Number(shape.dataset.line)));
+    const shape = click.target.closest(\"g[data-line],g[data-of]\");
+    if (shape) choose(place_of(Number(shape.dataset.line ?? shape.dataset.of)));
   });
   for (const id of [...FIELDS, \"field\"]) at(id).addEventListener(\"input\", filter);
   at(\"find\").addEventListener(\"submit\", (submitted) => {
@@ -745,10 +882,10 @@ function listen() {
 take_front();
 make_legend();
 fill_choices();
-lay_out();
+lay_out(FIRST);
 filter();
 listen();
-new ResizeObserver(lay_out).observe(at(\"picture\"));
+new ResizeObserver(follow_size).observe(at(\"picture\"));
 follow_address();
 </script>
 </body>

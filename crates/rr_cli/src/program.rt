@@ -131,7 +131,7 @@ where
         Ok(Task::Audit(None, form)) => audit_input(rt.alloc(), form, input, out, err),
         Ok(Task::Audit(Some(path), form)) => audit_file(rt.alloc(), form, files, path, out, err),
         Ok(Task::View(_)) => end_without_views(err),
-        Ok(Task::Run(_, _, _, _, _, _)) => end_without_threads(err),
+        Ok(Task::Run(_, _, _, _, _, _, _)) => end_without_threads(err),
         Ok(Task::Shell(_)) => end_without_shell(err),
         Ok(Task::Sweep(_, None)) => end_without_seed(err),
         Ok(Task::Sweep(None, Some(seed))) => sweep_by_word(rt.alloc(), seed, input, out, err),

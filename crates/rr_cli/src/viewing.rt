@@ -45,7 +45,7 @@ where
         Ok(Task::Show(_, _)) => execute(rt, words, files, input, out, err),
         Ok(Task::Random(_)) => execute(rt, words, files, input, out, err),
         Ok(Task::Audit(_, _)) => execute(rt, words, files, input, out, err),
-        Ok(Task::Run(_, _, _, _, _, _)) => execute(rt, words, files, input, out, err),
+        Ok(Task::Run(_, _, _, _, _, _, _)) => execute(rt, words, files, input, out, err),
         Ok(Task::Shell(_)) => execute(rt, words, files, input, out, err),
         Ok(Task::Sweep(_, _)) => execute(rt, words, files, input, out, err),
         Ok(Task::Draw(_, _)) => execute(rt, words, files, input, out, err),

@@ -56,8 +56,8 @@ returns-in-Ok-Audit-clause-ends g c =
 pub returns-in-Ok-Run-clause-ends : goal.returns-in-Ok-Run-clause-ends
 returns-in-Ok-Run-clause-ends g c =
     let w = c.in-Ok-Run in
-    let task : task_of (map g.S.AsStr.text c.args.words.now) ≡ Run (text_of w.field-0-0) (text_of w.field-0-1) (text_of w.field-0-2) (text_of w.field-0-3) (text_of w.field-0-4) w.field-0-5 = sym w.ensures.task ∙ ap task_in w.field-0-is in
-    by_others (λ none view is. no_run (text_of w.field-0-0) (text_of w.field-0-1) (text_of w.field-0-2) (text_of w.field-0-3) (text_of w.field-0-4) w.field-0-5 view (sym task ∙ is)) c.execute-in-Ok-Run.ensures.ends
+    let task : task_of (map g.S.AsStr.text c.args.words.now) ≡ Run (text_of w.field-0-0) (text_of w.field-0-1) (text_of w.field-0-2) (text_of w.field-0-3) (text_of w.field-0-4) (text_of w.field-0-5) w.field-0-6 = sym w.ensures.task ∙ ap task_in w.field-0-is in
+    by_others (λ none view is. no_run (text_of w.field-0-0) (text_of w.field-0-1) (text_of w.field-0-2) (text_of w.field-0-3) (text_of w.field-0-4) (text_of w.field-0-5) w.field-0-6 view (sym task ∙ is)) c.execute-in-Ok-Run.ensures.ends
 
 pub returns-in-Ok-Shell-clause-ends : goal.returns-in-Ok-Shell-clause-ends
 returns-in-Ok-Shell-clause-ends g c =
