@@ -1,4 +1,5 @@
 mod BoardLemmas
+mod LeftLemmas
 mod NewsLemmas
 mod ShellLemmas
 mod ToldLemmas

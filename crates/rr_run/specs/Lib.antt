@@ -4,6 +4,7 @@ pub mod Closings
 pub mod Ears
 pub mod Endings
 pub mod Hints
+pub mod LeavingOut
 pub mod News
 pub mod Numbers
 pub mod Questions

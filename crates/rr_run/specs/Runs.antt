@@ -1,5 +1,5 @@
 -- How a run in threads ends: the program's exit status, and what standard output has taken.
-use Rattle.std.specs.Prelude.{◌≡◌, ℕ, List, [], Option, Some, IsSome, MatchBool, codes}
+use Rattle.std.specs.Prelude.{◌≡◌, ℕ, List, [], Option, None, Some, IsSome, MatchBool, codes}
 use Rattle.std.specs.Str.{bytes_eq}
 use Rattle.clap.specs.Kinds.{Kinds}
 use Rattle.clap.specs.Words.{Text}
@@ -17,6 +17,7 @@ use Rattle.rr_words.specs.Tasks.{ShellWords, Task, Run, Shell}
 use Rattle.rr_cli.specs.Refusals.{status_of}
 use Rattle.rr_words.specs.declared.tasks.Form.{Form}
 use Rattle.rr_run.specs.AnswerObjects.{answers_in}
+use Rattle.rr_run.specs.LeavingOut.{left_out_by}
 use Rattle.rr_run.specs.Shells.{EndsOnShellWords}
 
 -- a run in threads, with a file for its tape or none: answers are printed in a form, a line each; or the folders or the run are
@@ -43,12 +44,16 @@ EndsOnNamed word On from to status old new =
     MatchBool (bytes_eq word (codes "-")) (EndsOnInput On from.input to.input status old new)
     ((to.input ≡ from.input) × EndsOnInput On (file_at from.files word) (file_at to.files word) status old new)
 
--- a run by words: of the number of nodes that a word names, by a script that is read; or it names none from 1 to 7
-pub data EndsOnRun (form : Form) (of_nodes script : Text) (tape : Option Text) (from to : Readable) (status : ℕ) (old new : Printing) : Type 0 where
-  numbered : (n : ℕ) → IsNumberIn 1 7 of_nodes n → EndsOnNamed script (EndsOnScript form n tape) from to status old new
-      → EndsOnRun form of_nodes script tape from to status old new
+-- a run by words: of the number of nodes that a word names, without nodes that a word names, by a script that is read; or there is no
+-- such number from 1 to 7; or the word for nodes to be left out is no list of these nodes
+pub data EndsOnRun (form : Form) (of_nodes script : Text) (tape without : Option Text) (from to : Readable) (status : ℕ) (old new : Printing) : Type 0 where
+  numbered : (n left : ℕ) → IsNumberIn 1 7 of_nodes n → left_out_by n without ≡ Some left
+      → EndsOnNamed script (EndsOnScript form n tape) from to status old new
+      → EndsOnRun form of_nodes script tape without from to status old new
   unnumbered : ((n : ℕ) → IsNumberIn 1 7 of_nodes n → ⊥) → status ≡ 2 → to.input ≡ from.input → new ≡ old
-      → EndsOnRun form of_nodes script tape from to status old new
+      → EndsOnRun form of_nodes script tape without from to status old new
+  unleft : (n : ℕ) → IsNumberIn 1 7 of_nodes n → left_out_by n without ≡ None → status ≡ 2 → to.input ≡ from.input → new ≡ old
+      → EndsOnRun form of_nodes script tape without from to status old new
 
 -- words that ask for a run, and say all that has to be said of it
 pub record AsksForRun (task : Task) : Type 0 where
@@ -57,18 +62,19 @@ pub record AsksForRun (task : Task) : Type 0 where
   pub script : Text
   pub tape : Option Text
   pub tick : Option Text
+  pub without : Option Text
   pub form : Form
-  pub is : task ≡ Run (Some nodes) (Some dir) (Some script) tape tick form
+  pub is : task ≡ Run (Some nodes) (Some dir) (Some script) tape tick without form
 
 -- whether words ask for nodes in threads, and say all that has to be said of them
 abbrev pub AsksForThreads : Task → Type 0
-AsksForThreads (Run (Some nodes) (Some dir) (Some script) tape tick form) = Unit {0}
+AsksForThreads (Run (Some nodes) (Some dir) (Some script) tape tick without form) = Unit {0}
 AsksForThreads (Shell words) = Unit {0}
 AsksForThreads task = ⊥
 
 -- the program with threads, by words: a run, or a shell, or what the program without threads does, or no memory even to read them
 pub data EndsWithThreads (faults : Kinds) (task : Task) (from to : Readable) (status : ℕ) (old new : Printing) : Type 0 where
-  by_script : (asks : AsksForRun task) → faults ≡ [] → EndsOnRun asks.form asks.nodes asks.script asks.tape from to status old new
+  by_script : (asks : AsksForRun task) → faults ≡ [] → EndsOnRun asks.form asks.nodes asks.script asks.tape asks.without from to status old new
       → EndsWithThreads faults task from to status old new
   by_shell : (words : ShellWords) → task ≡ Shell words → faults ≡ [] → EndsOnShellWords words from.input to.input status old new
       → EndsWithThreads faults task from to status old new

@@ -14,6 +14,7 @@ use Rattle.rr_cli.specs.Randoms.{IsNumberIn}
 use Rattle.rr_cli.specs.Refusals.{status_of}
 use Rattle.rr_run.specs.declared.post.AtPost.{AtPost}
 use Rattle.rr_run.specs.Boards.{DidBy, any_call}
+use Rattle.rr_run.specs.LeavingOut.{left_out_by}
 
 -- the client that a word names; client 0 where there is no word
 abbrev pub IsClientBy : Option Text → ℕ → Type 0
@@ -69,11 +70,15 @@ abbrev pub EndsOnEither : Bool → Bool → ℕ → List Text → Reading → Re
 EndsOnEither json strict n [] from to status old new = EndsOnShell json strict n from to status old new
 EndsOnEither json strict n (line ∷ lines) from to status old new = (to ≡ from) × EndsOnLines json strict n (line ∷ lines) status old new
 
--- a shell by words: of the number of nodes that a word names, for the client that a word names; or there are no such numbers
+-- a shell by words: of the number of nodes that a word names, for the client that a word names, without nodes that a word names; or there
+-- are no such numbers; or the word for nodes to be left out is no list of these nodes
 pub data EndsOnShellWords (words : ShellWords) (from to : Reading) (status : ℕ) (old new : Printing) : Type 0 where
-  numbered : (n c : ℕ) → IsNodesBy words.nodes n → IsClientBy words.client c
+  numbered : (n c left : ℕ) → IsNodesBy words.nodes n → IsClientBy words.client c → left_out_by n words.without ≡ Some left
       → EndsOnEither words.json words.strict n words.lines from to status old new
       → EndsOnShellWords words from to status old new
   unnumbered : ((n c : ℕ) → IsNodesBy words.nodes n → IsClientBy words.client c → ⊥) → status ≡ 2 → to ≡ from
+      → new ≡ old
+      → EndsOnShellWords words from to status old new
+  unleft : (n c : ℕ) → IsNodesBy words.nodes n → IsClientBy words.client c → left_out_by n words.without ≡ None → status ≡ 2 → to ≡ from
       → new ≡ old
       → EndsOnShellWords words from to status old new

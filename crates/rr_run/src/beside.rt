@@ -8,7 +8,7 @@ ghost use Rattle.rr_run.specs.Endings.{refusal_of};
 use crate::ending::Ended;
 use crate::post::Post;
 use crate::teller::Teller;
-use rr_disk::Disk;
+use rr_disk::{Disk, Reopen};
 use rr_shell::{Asked, Prompting, Stop, Trouble, talk};
 use rr_stream::Sink;
 use rr_threads::run_switched;
@@ -65,7 +65,7 @@ fn end_behind<R: Wait, F: FnOnce() -> Result<(), Refusal>>(rt: &R, post: &Post, 
 }
 
 // Runs the nodes until nothing is asked any more, or the run fails.
-fn run_nodes<D: Disk + Drop + Send, R: AllocGlobal + Threads + Wait + Clock + Sync>(
+fn run_nodes<D: Disk + Reopen + Drop + Send, R: AllocGlobal + Threads + Wait + Clock + Sync>(
     rt: &R,
     nodes: Nodes,
     disks: Vec<D>,
@@ -99,7 +99,7 @@ fn end_unless<R: Wait>(rt: &R, post: &Post, is_started: bool) -> Option<Ended>
 fn start_nodes<
     's,
     E,
-    D: Disk + Drop + Send + 's,
+    D: Disk + Reopen + Drop + Send + 's,
     R: AllocGlobal + Threads + Wait + Clock + Sync + 's,
 >(
     scope: &Scope<'s, E>,
@@ -121,7 +121,7 @@ fn start_nodes<
 
 // Does some work while the nodes run. Then they come to their end.
 fn run_beside<
-    D: Disk + Drop + Send,
+    D: Disk + Reopen + Drop + Send,
     R: AllocGlobal + Threads + Wait + Clock + Sync,
     T: Work<Output = A> + Drop,
     A,
@@ -152,7 +152,7 @@ fn take_back<T>(lent: &mut T)
 
 // Calls a closure while the nodes run.
 fn call_beside<
-    D: Disk + Drop + Send,
+    D: Disk + Reopen + Drop + Send,
     R: AllocGlobal + Threads + Wait + Clock + Sync,
     C: FnMut() -> A,
     A,
@@ -175,7 +175,7 @@ fn call_beside<
 
 /// Talks while the nodes run.
 pub(crate) fn talk_beside<
-    D: Disk + Drop + Send,
+    D: Disk + Reopen + Drop + Send,
     R: AllocGlobal + Threads + Wait + Clock + Sync,
     I: Prompting,
     O: Sink + Send,

@@ -3,11 +3,13 @@
 ghost use Rattle.std.specs.Prelude.{◌≡◌, ℕ, IfSome, Option, None, option_map};
 ghost use Rattle.rr_run.specs.Shells.{IsNodesBy};
 
+use crate::leaving_out::{first_left, left_out_of_any};
 use rr_cli::nodes_of;
 use rr_folders::read_only_disk;
 use rr_journal::inspect;
 use rr_shell::Prompting;
-use rr_types::Nodes;
+use rr_types::{NodeId, NodeSet, Nodes};
+use std::alloc::{AllocError, Global};
 use std::os::unix::fs::FileExt;
 use std::rt::Files;
 
@@ -30,13 +32,16 @@ where
     }
 }
 
-// How many nodes a folder was made for, by the first folder of a node that tells it.
-fn nodes_there<R: Files + AllocGlobal>(rt: &R, dir: &str) -> Option<Nodes>
+// How many nodes a folder was made for, by the first folder of a node that tells it. Those of nodes that are left out aren't read.
+fn nodes_there<R: Files + AllocGlobal>(rt: &R, dir: &str, without: NodeSet) -> Option<Nodes>
 where
     R::File: FileExt,
 {
-    for node in 0..7u8 {
-        let folder = format!(in rt.alloc(); "{dir}/{node}").ok()?;
+    for index in 0..7u8 {
+        if without.contains(NodeId::at(index)?) {
+            continue;
+        }
+        let folder = format!(in rt.alloc(); "{dir}/{index}").ok()?;
         if let Some(nodes) = nodes_told(rt, folder.as_str()) {
             return Some(nodes);
         }
@@ -44,11 +49,13 @@ where
     None
 }
 
-/// How many nodes a word names. Without a word, as many as the folder was made for, or else three.
+/// How many nodes a word names. Without a word, as many as the folder was made for, or else three. The folders of nodes that another word
+/// leaves out aren't read.
 pub(crate) fn nodes_by<R: Files + AllocGlobal>(
     rt: &R,
     word: Option<&str>,
     dir: &str,
+    without: Option<&str>,
 ) -> Option<Nodes>
 where
     R::File: FileExt,
@@ -57,20 +64,21 @@ where
 {
     match word {
         Some(word) => nodes_of(word),
-        None => match nodes_there(rt, dir) {
+        None => match nodes_there(rt, dir, left_out_of_any(without)) {
             Some(nodes) => Some(nodes),
             None => Nodes::new(COUNT).ok(),
         },
     }
 }
 
-/// Shows what a shell runs over, where somebody types: how many nodes, which folder and whether a registry is new there, who asks, and which
-/// node is asked first.
+/// Shows what a shell runs over, where somebody types: how many nodes, which folder and whether a registry is new there, who is left out, who
+/// asks, and which node is asked first.
 pub(crate) fn show_begin<R: Files + AllocGlobal, I: Prompting>(
     rt: &R,
     nodes: Nodes,
     dir: &str,
     client: u32,
+    without: NodeSet,
     input: &mut I,
 )
 where
@@ -78,15 +86,48 @@ where
     ensures { I.reading input.new ≡ I.reading input.old }
 {
     let count = nodes.count();
-    let kind = if nodes_there(rt, dir).is_none() {
+    let kind = if nodes_there(rt, dir, without).is_none() {
         "a new registry"
     } else {
         "the registry"
     };
+    let (Ok(left_out), Ok(advice)) = (
+        left_out_text(rt.alloc(), nodes, without),
+        advice_text(rt.alloc(), nodes, without),
+    ) else {
+        return;
+    };
+    let (left_out, advice) = (left_out.as_str(), advice.as_str());
     let Ok(text) = format!(in rt.alloc();
-        "rr: {kind} in {dir}, of {count} nodes; you are client {client}, and ask node 0; \"help\" lists the commands, \"quit\" or Ctrl-D ends\n"
+        "rr: {kind} in {dir}, of {count} nodes{left_out}; you are client {client}, and ask node 0{advice}; \"help\" lists the commands, \"quit\" or Ctrl-D ends\n"
     ) else {
         return;
     };
     input.show(text.as_bytes());
+}
+
+// Who is left out, in words; nothing where nobody is.
+fn left_out_text(alloc: Global, nodes: Nodes, without: NodeSet) -> Result<String, AllocError> {
+    let mut text = String::new(alloc);
+    for index in 0..nodes.count() {
+        if let Some(node) = NodeId::new(nodes, index) {
+            if without.contains(node) {
+                let front = if text.is_empty() { ", without " } else { "," };
+                text.push_str(front)?;
+                text.push(char::from(b'0' + index))?;
+            }
+        }
+    }
+    Ok(text)
+}
+
+// What to say first where node 0 is left out; nothing else.
+fn advice_text(alloc: Global, nodes: Nodes, without: NodeSet) -> Result<String, AllocError> {
+    match first_left(nodes, without) {
+        Some(node) if node.index() > 0 => {
+            let index = node.index();
+            format!(in alloc; ", which is left out: say \"at {index}\"")
+        }
+        _ => Ok(String::new(alloc)),
+    }
 }

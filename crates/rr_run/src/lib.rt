@@ -47,6 +47,7 @@ mod console;
 mod defaults;
 mod ending;
 mod failures;
+mod leaving_out;
 mod news;
 mod post;
 mod program;

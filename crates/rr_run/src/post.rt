@@ -8,7 +8,7 @@ use crate::asking::{Question, Told};
 use crate::board::Board;
 use crate::ending::{Ended, Ending, Seen};
 use rr_threads::Switches;
-use rr_types::{NodeId, Nodes, Refusal};
+use rr_types::{NodeId, NodeSet, Nodes, Refusal};
 use std::alloc::Global;
 use std::mem;
 use std::sync::atomic::{AtomicBool, Ordering};
@@ -48,15 +48,38 @@ pub(crate) struct Post {
     clients: Vec<Parker>,
 }
 
+// Switches of nodes that tick so often. Those of nodes that are left out are off.
+fn switches_without(
+    alloc: Global,
+    nodes: Nodes,
+    tick: Duration,
+    without: NodeSet,
+) -> Result<Switches, Refusal> {
+    let switches = Switches::new(alloc, nodes)?.with_tick(tick);
+    for index in 0..nodes.count() {
+        if let Some(node) = NodeId::new(nodes, index) {
+            if without.contains(node) {
+                switches.stop(node);
+            }
+        }
+    }
+    Ok(switches)
+}
+
 impl Post {
-    /// A post for `nodes` nodes, of which nothing is asked yet, and which tick so often.
-    pub(crate) fn new(alloc: Global, nodes: Nodes, tick: Duration) -> Result<Post, Refusal> {
+    /// A post for `nodes` nodes, of which nothing is asked yet, and which tick so often. Those that are left out are to be down.
+    pub(crate) fn new(
+        alloc: Global,
+        nodes: Nodes,
+        tick: Duration,
+        without: NodeSet,
+    ) -> Result<Post, Refusal> {
         let mut clients = Vec::new(alloc);
         for _ in 0..nodes.count() {
             clients.push(Parker::new())?;
         }
         Ok(Post {
-            switches: Switches::new(alloc, nodes)?.with_tick(tick),
+            switches: switches_without(alloc, nodes, tick, without)?,
             slip: Mutex::new(Slip::Nothing),
             ending: Ending::new(),
             is_closed: AtomicBool::new(false),

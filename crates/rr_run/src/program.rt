@@ -7,7 +7,7 @@ ghost use Rattle.rr_words.specs.Tasks.{faults_of, task_of};
 ghost use Rattle.rr_run.specs.Runs.{EndsWithThreads};
 ghost use Rattle.rr_run.specs.Telling.{IsQuiet};
 
-use crate::script_run::run_by_words;
+use crate::script_run::{RunWords, run_by_words};
 use crate::shell_run::shell_by_words;
 use rr_cli::{Task, end_by_words, end_without_words, read_words};
 use rr_folders::{Lockable, MarkWriter};
@@ -26,20 +26,20 @@ use std::time::Clock;
 /// Runs the program `rr` by these words, the first of which is its name, and gives its exit status. It is
 /// `rr_cli::execute_with_views` with two more commands.
 ///
-/// `rr run --nodes NODES --dir DIR --script SCRIPT [--tape TAPE] [--tick MILLISECONDS] [--json]` reads a script from the file SCRIPT, or from
-/// `input` where SCRIPT is `-`. It runs that many nodes in threads, node P over the disk in the folder DIR/P, and prints the answers to the
-/// script, in words or with JSON. Folders and files that are missing are made. With a TAPE all areas have to be unformatted, and the tape
-/// of the run is written to that file before the answers are printed. What goes wrong is told on `err`: the words, then the file, then its
-/// text, then the folders, ascending, then areas that are formatted, then the run, then request numbers that are decided as other
-/// commands, then the file TAPE.
+/// `rr run --nodes NODES --dir DIR --script SCRIPT [--tape TAPE] [--tick MILLISECONDS] [--without NODES] [--json]` reads a script from the file
+/// SCRIPT, or from `input` where SCRIPT is `-`. It runs that many nodes in threads, node P over the disk in the folder DIR/P, and prints the
+/// answers to the script, in words or with JSON. Folders and files that are missing are made. With a TAPE all areas have to be unformatted, and
+/// the tape of the run is written to that file before the answers are printed. The nodes of `--without` stay down, and their folders aren't
+/// touched. What goes wrong is told on `err`: the words, then the file, then its text, then the folders, ascending, then areas that are
+/// formatted, then the run, then request numbers that are decided as other commands, then the file TAPE.
 ///
-/// `rr shell [--nodes NODES] [--dir DIR] [--client CLIENT] [--tick MILLISECONDS] [-c LINE].. [--strict] [--json]` runs nodes over folders in the same
-/// way, and reads commands from `input`, or else answers each LINE. A line is answered on `out` before the next is read, in words
+/// `rr shell [--nodes NODES] [--dir DIR] [--client CLIENT] [--tick MILLISECONDS] [--without NODES] [-c LINE].. [--strict] [--json]` runs nodes over
+/// folders in the same way, and reads commands from `input`, or else answers each LINE. A line is answered on `out` before the next is read, in words
 /// or with JSON. Where somebody types, `input` shows a prompt before each. With `--strict` it ends at the first line that isn't
 /// answered as asked. What goes wrong is told on `err`: the words, then the folders, ascending, then the file DIR/requests, then the run or a stream.
 pub fn execute<
     F: Read + Write + Seek + FileExt + OpenFile + Drop + Send + Lockable,
-    R: Files<File = F> + AllocGlobal + Threads + Wait + Clock + Sync + MarkWriter,
+    R: Files<File = F> + AllocGlobal + Threads + Wait + Clock + Sync + MarkWriter<Handle = F>,
     S: AsStr,
     L: FileReader,
     I: Prompting,
@@ -54,18 +54,25 @@ where
         (E.contents err.old) (E.contents err.new) }
 {
     match read_words(rt.alloc(), words) {
-        Ok(Task::Run(Some(nodes), Some(dir), Some(script), tape, tick, form)) => {
-            run_by_words(
-                rt, files, nodes, dir, tape, tick, form, script, input, out, err,
-            )
+        Ok(Task::Run(Some(nodes), Some(dir), Some(script), tape, tick, without, form)) => {
+            let words = RunWords {
+                nodes,
+                dir,
+                script,
+                tape,
+                tick,
+                without,
+                form,
+            };
+            run_by_words(rt, files, &words, input, out, err)
         }
-        Ok(Task::Run(None, _, _, _, _, _)) => rr_cli::execute_with_views(
+        Ok(Task::Run(None, _, _, _, _, _, _)) => rr_cli::execute_with_views(
             rt, words, files, input, out, err,
         ),
-        Ok(Task::Run(_, None, _, _, _, _)) => rr_cli::execute_with_views(
+        Ok(Task::Run(_, None, _, _, _, _, _)) => rr_cli::execute_with_views(
             rt, words, files, input, out, err,
         ),
-        Ok(Task::Run(_, _, None, _, _, _)) => rr_cli::execute_with_views(
+        Ok(Task::Run(_, _, None, _, _, _, _)) => rr_cli::execute_with_views(
             rt, words, files, input, out, err,
         ),
         Ok(Task::Shell(asked)) => shell_by_words(rt, &asked, input, out, err),
@@ -87,7 +94,7 @@ where
 /// with 2, as for a word that is no text.
 pub fn run<
     F: Read + Write + Seek + FileExt + OpenFile + Drop + Send + Lockable,
-    R: Files<File = F> + AllocGlobal + Threads + Wait + Clock + Sync + MarkWriter,
+    R: Files<File = F> + AllocGlobal + Threads + Wait + Clock + Sync + MarkWriter<Handle = F>,
     L: FileReader,
     I: Prompting,
     O: Sink + Send,

@@ -13,10 +13,11 @@ ghost use Rattle.rr_run.specs.Telling.{TellsReused, TellsOfBytes, TellsOfInput, 
 
 use crate::answer_objects::answers_in;
 use crate::closed::end_by_closed;
+use crate::leaving_out::{end_without_list, left_out_by};
 use crate::reused::tell_reused;
 use crate::ticking::tick_by;
 use rr_cli::{Form, end_by_refusal, end_by_stream, end_by_text, nodes_of, print_folder_fault};
-use rr_disk::{Disk, FileDisk};
+use rr_disk::{Disk, FileDisk, Reopen};
 use rr_explain::print_script_fault;
 use rr_folders::{
     Closed, Folders, Lockable, Locks, MarkWriter, Reasons, Survey, enter, read_only_disk,
@@ -27,7 +28,7 @@ use rr_stream::{FileReader, Sink, Source, read_all};
 use rr_text::{Answers, Script, Tape};
 use rr_threads::{Ran, Recorder, run_script_told};
 use rr_turn::Open;
-use rr_types::{Nodes, Refusal};
+use rr_types::{NodeId, NodeSet, Nodes, Refusal};
 use std::alloc::Global;
 use std::fs::OpenFile;
 use std::io::{Read, Seek, Write};
@@ -38,19 +39,41 @@ use std::thread::Threads;
 use std::time::{Clock, Duration};
 use std::{fs, io};
 
-/// How a script is run: how long after a tick of a node the next is due, and how the answers are printed.
+/// What the words of a run say.
+#[derive(Clone, Copy, Debug)]
+pub(crate) struct RunWords<'a> {
+    /// How many nodes there are.
+    pub(crate) nodes: &'a str,
+    /// The folder of their folders.
+    pub(crate) dir: &'a str,
+    /// The script.
+    pub(crate) script: &'a str,
+    /// Where the tape is written.
+    pub(crate) tape: Option<&'a str>,
+    /// How many milliseconds are between two ticks of a node.
+    pub(crate) tick: Option<&'a str>,
+    /// The nodes that are left down.
+    pub(crate) without: Option<&'a str>,
+    /// How the answers are printed.
+    pub(crate) form: Form,
+}
+
+/// How a script is run: how long after a tick of a node the next is due, which nodes are left down, and how the answers are printed.
 #[derive(Clone, Copy, Debug)]
 struct Manner {
     tick: Duration,
+    without: NodeSet,
     form: Form,
 }
 
-/// Ends by the refusal of a run over the folders in the folder DIR. Where a folder has what is refused, a second line tells it.
+/// Ends by the refusal of a run over the folders in the folder DIR. Where a folder has what is refused, a second line tells it. Those of
+/// nodes that are left out aren't looked at.
 pub(crate) fn end_by_run_fault<R: Files + AllocGlobal, E: Write>(
     rt: &R,
     err: &mut E,
     dir: &str,
     nodes: Nodes,
+    without: NodeSet,
     reasons: &Reasons,
     refusal: &Refusal,
 ) -> u8
@@ -60,8 +83,8 @@ where
 {
     let ending = end_by_refusal(err, refusal);
     let _ = match refusal {
-        Refusal::Device => print_reason(rt, err, dir, nodes, reasons),
-        Refusal::Damaged { .. } => print_refused_folder(rt, err, dir, nodes, refusal),
+        Refusal::Device => print_reason(rt, err, dir, nodes, without, reasons),
+        Refusal::Damaged { .. } => print_refused_folder(rt, err, dir, nodes, without, refusal),
         _ => Ok(()),
     };
     ending
@@ -73,6 +96,7 @@ fn print_reason<R: Files + AllocGlobal, W: Write>(
     err: &mut W,
     dir: &str,
     nodes: Nodes,
+    without: NodeSet,
     reasons: &Reasons,
 ) -> io::Result<()>
 where
@@ -81,7 +105,15 @@ where
     if reasons.print(err, dir)? {
         return Ok(());
     }
-    print_refused_folder(rt, err, dir, nodes, &Refusal::Device)
+    print_refused_folder(rt, err, dir, nodes, without, &Refusal::Device)
+}
+
+// Whether a node is left out that has this number.
+fn is_left_out(without: NodeSet, index: u8) -> bool {
+    match NodeId::at(index) {
+        Some(node) => without.contains(node),
+        None => false,
+    }
 }
 
 // Prints what is wrong in the first folder of a run that can't be read, or that those which can be differ.
@@ -90,12 +122,16 @@ fn print_refused_folder<R: Files + AllocGlobal, W: Write>(
     err: &mut W,
     dir: &str,
     nodes: Nodes,
+    without: NodeSet,
     refusal: &Refusal,
 ) -> io::Result<()>
 where
     R::File: FileExt,
 {
     for node in 0..nodes.count() {
+        if is_left_out(without, node) {
+            continue;
+        }
         let path = format!(in rt.alloc(); "{dir}/{node}")?;
         if let Err(error) = fs::open(rt, path.as_str()) {
             return writeln!(err, "{path}: opening the folder: {error}");
@@ -110,7 +146,24 @@ where
             "{dir}: its folders decide an instance differently: see rr verify {dir}"
         );
     }
+    print_untried_folder(rt, err, dir, nodes, without)
+}
+
+// Prints why the first folder of a run can't be written, or else that a file in them failed.
+fn print_untried_folder<R: Files + AllocGlobal, W: Write>(
+    rt: &R,
+    err: &mut W,
+    dir: &str,
+    nodes: Nodes,
+    without: NodeSet,
+) -> io::Result<()>
+where
+    R::File: FileExt,
+{
     for node in 0..nodes.count() {
+        if is_left_out(without, node) {
+            continue;
+        }
         let path = format!(in rt.alloc(); "{dir}/{node}")?;
         if let Err(Closed::Failed { path, call, error }) = try_folder(rt, path.as_str()) {
             return writeln!(err, "{path}: {call}: {error}");
@@ -193,7 +246,7 @@ fn end_by_tape<R: Files + AllocGlobal, O: Sink, E: Write>(
 // Runs a script over the disks of folders, whose locks are held meanwhile.
 fn run_locked<
     F: Read + Write + Seek + FileExt + OpenFile + Drop,
-    D: Disk + Drop + Send,
+    D: Disk + Reopen + Drop + Send,
     R: AllocGlobal + Threads + Wait + Clock + Sync,
 >(
     rt: &R,
@@ -201,18 +254,28 @@ fn run_locked<
     disks: Vec<D>,
     script: &Script,
     recorder: Option<&Recorder>,
+    without: NodeSet,
     tick: Duration,
 ) -> Result<Ran, Refusal>
     requires alike { (one other : D) → D.tells one → D.tells other }
     ensures { IfOk result (λ ran. are_reused script.now.lines ran.reused.items ≡ true) }
 {
-    run_script_told(rt, rt.alloc(), disks, script, &Open, recorder, tick)
+    run_script_told(
+        rt,
+        rt.alloc(),
+        without,
+        disks,
+        script,
+        &Open,
+        recorder,
+        tick,
+    )
 }
 
 // Runs a script over folders as they were found, and prints the answers. The locks are released after the run.
 fn run_in<
     F: Read + Write + Seek + FileExt + OpenFile + Drop + Send + Lockable,
-    R: Files<File = F> + AllocGlobal + Threads + Wait + Clock + Sync + MarkWriter,
+    R: Files<File = F> + AllocGlobal + Threads + Wait + Clock + Sync + MarkWriter<Handle = F>,
     O: Sink,
     E: Write,
 >(
@@ -227,6 +290,11 @@ fn run_in<
     ensures ends { EndsOnFolders manner.form None result (O.printing out.old) (O.printing out.new) }
     ensures quiet { result ≡ 0 → TellsReused script.now.lines (E.contents err.old) (E.contents err.new) }
 {
+    let Manner {
+        tick,
+        without,
+        form,
+    } = manner;
     let nodes = script.nodes();
     let folders = match enter(rt, nodes, dir, survey) {
         Ok(folders) => folders,
@@ -237,22 +305,22 @@ fn run_in<
         disks,
         reasons,
     } = folders;
-    let ran = run_locked(rt, &locks, disks, script, None, manner.tick);
+    let ran = run_locked(rt, &locks, disks, script, None, without, tick);
     drop(locks);
     match ran {
         Ok(ran) => {
             let Ran { answers, reused } = ran;
             tell_reused(rt.alloc(), err, script.lines(), reused.as_slice());
-            end_by_answers(rt.alloc(), manner.form, &answers, out, err)
+            end_by_answers(rt.alloc(), form, &answers, out, err)
         }
-        Err(refusal) => end_by_run_fault(rt, err, dir, nodes, &reasons, &refusal),
+        Err(refusal) => { end_by_run_fault(rt, err, dir, nodes, without, &reasons, &refusal) }
     }
 }
 
 // Runs a script over folders that were found fresh, writes the tape to a file of this name, and prints the answers.
 fn run_taped<
     F: Read + Write + Seek + FileExt + OpenFile + Drop + Send + Lockable,
-    R: Files<File = F> + AllocGlobal + Threads + Wait + Clock + Sync + MarkWriter,
+    R: Files<File = F> + AllocGlobal + Threads + Wait + Clock + Sync + MarkWriter<Handle = F>,
     O: Sink,
     E: Write,
 >(
@@ -268,6 +336,11 @@ fn run_taped<
     ensures ends { EndsOnFolders manner.form (Some path.now) result (O.printing out.old) (O.printing out.new) }
     ensures quiet { result ≡ 0 → TellsReused script.now.lines (E.contents err.old) (E.contents err.new) }
 {
+    let Manner {
+        tick,
+        without,
+        form,
+    } = manner;
     let nodes = script.nodes();
     let folders = match enter(rt, nodes, dir, survey) {
         Ok(folders) => folders,
@@ -279,45 +352,36 @@ fn run_taped<
         reasons,
     } = folders;
     let recorder = Recorder::new(rt.alloc(), nodes);
-    let ran = run_locked(rt, &locks, disks, script, Some(&recorder), manner.tick);
+    let ran = run_locked(rt, &locks, disks, script, Some(&recorder), without, tick);
     drop(locks);
     match ran {
         Ok(ran) => {
             let Ran { answers, reused } = ran;
             tell_reused(rt.alloc(), err, script.lines(), reused.as_slice());
-            end_by_tape(
-                rt,
-                manner.form,
-                path,
-                &recorder.into_tape(),
-                &answers,
-                out,
-                err,
-            )
+            end_by_tape(rt, form, path, &recorder.into_tape(), &answers, out, err)
         }
-        Err(refusal) => end_by_run_fault(rt, err, dir, nodes, &reasons, &refusal),
+        Err(refusal) => { end_by_run_fault(rt, err, dir, nodes, without, &reasons, &refusal) }
     }
 }
 
 // Runs a script with a tape over folders, unless an area was found that is formatted.
 fn run_if_fresh<
     F: Read + Write + Seek + FileExt + OpenFile + Drop + Send + Lockable,
-    R: Files<File = F> + AllocGlobal + Threads + Wait + Clock + Sync + MarkWriter,
+    R: Files<File = F> + AllocGlobal + Threads + Wait + Clock + Sync + MarkWriter<Handle = F>,
     O: Sink,
     E: Write,
->(
-    rt: &R,
-    dir: &str,
-    survey: Survey<F>,
-    script: &Script,
-    path: &str,
-    manner: Manner,
-    out: &mut O,
-    err: &mut E,
-) -> u8
+>(rt: &R, dir: &str, script: &Script, path: &str, manner: Manner, out: &mut O, err: &mut E) -> u8
     ensures ends { EndsOnFolders manner.form (Some path.now) result (O.printing out.old) (O.printing out.new) }
     ensures quiet { result ≡ 0 → TellsReused script.now.lines (E.contents err.old) (E.contents err.new) }
 {
+    if manner.without.bits() > 0 {
+        return end_by_tape_without(err);
+    }
+    let nodes = script.nodes();
+    let survey = match survey_folders(rt, nodes, dir, manner.without) {
+        Ok(survey) => survey,
+        Err(closed) => return end_by_closed(rt, err, dir, nodes, &closed),
+    };
     if !survey.is_fresh() {
         let _ = writeln!(err, "rr: --tape wants fresh folders");
         return 2;
@@ -325,10 +389,39 @@ fn run_if_fresh<
     run_taped(rt, dir, survey, script, path, manner, out, err)
 }
 
+// Ends where a tape is asked for, and nodes are left out, which only a cluster can be that is there.
+fn end_by_tape_without<E: Write>(err: &mut E) -> u8
+    ensures { result ≡ 2 }
+{
+    let _ = writeln!(
+        err,
+        "rr: run: --tape wants fresh folders, so it doesn't go with --without"
+    );
+    2
+}
+
+// Runs a script over the folders in the folder DIR, without those that are left out, and prints the answers.
+fn run_found<
+    F: Read + Write + Seek + FileExt + OpenFile + Drop + Send + Lockable,
+    R: Files<File = F> + AllocGlobal + Threads + Wait + Clock + Sync + MarkWriter<Handle = F>,
+    O: Sink,
+    E: Write,
+>(rt: &R, dir: &str, script: &Script, manner: Manner, out: &mut O, err: &mut E) -> u8
+    ensures ends { EndsOnFolders manner.form None result (O.printing out.old) (O.printing out.new) }
+    ensures quiet { result ≡ 0 → TellsReused script.now.lines (E.contents err.old) (E.contents err.new) }
+{
+    let nodes = script.nodes();
+    let survey = match survey_folders(rt, nodes, dir, manner.without) {
+        Ok(survey) => survey,
+        Err(closed) => return end_by_closed(rt, err, dir, nodes, &closed),
+    };
+    run_in(rt, dir, survey, script, manner, out, err)
+}
+
 // Runs a script over the folders in the folder DIR, and prints the answers; with a tape where a file is named for it.
 fn run_over<
     F: Read + Write + Seek + FileExt + OpenFile + Drop + Send + Lockable,
-    R: Files<File = F> + AllocGlobal + Threads + Wait + Clock + Sync + MarkWriter,
+    R: Files<File = F> + AllocGlobal + Threads + Wait + Clock + Sync + MarkWriter<Handle = F>,
     O: Sink,
     E: Write,
 >(
@@ -343,21 +436,16 @@ fn run_over<
     ensures ends { EndsOnFolders manner.form (option_map (λ s. s.now) tape.entry) result (O.printing out.old) (O.printing out.new) }
     ensures quiet { result ≡ 0 → TellsReused script.now.lines (E.contents err.old) (E.contents err.new) }
 {
-    let nodes = script.nodes();
-    let survey = match survey_folders(rt, nodes, dir) {
-        Ok(survey) => survey,
-        Err(closed) => return end_by_closed(rt, err, dir, nodes, &closed),
-    };
     match tape {
-        Some(path) => run_if_fresh(rt, dir, survey, script, path, manner, out, err),
-        None => run_in(rt, dir, survey, script, manner, out, err),
+        Some(path) => run_if_fresh(rt, dir, script, path, manner, out, err),
+        None => run_found(rt, dir, script, manner, out, err),
     }
 }
 
 // Runs the script that the bytes of this name are.
 fn run_bytes<
     F: Read + Write + Seek + FileExt + OpenFile + Drop + Send + Lockable,
-    R: Files<File = F> + AllocGlobal + Threads + Wait + Clock + Sync + MarkWriter,
+    R: Files<File = F> + AllocGlobal + Threads + Wait + Clock + Sync + MarkWriter<Handle = F>,
     O: Sink,
     E: Write,
 >(
@@ -383,7 +471,7 @@ fn run_bytes<
 // Runs the script that the input of this name holds.
 fn run_input<
     F: Read + Write + Seek + FileExt + OpenFile + Drop + Send + Lockable,
-    R: Files<File = F> + AllocGlobal + Threads + Wait + Clock + Sync + MarkWriter,
+    R: Files<File = F> + AllocGlobal + Threads + Wait + Clock + Sync + MarkWriter<Handle = F>,
     I: Source,
     O: Sink,
     E: Write,
@@ -420,7 +508,7 @@ fn run_input<
 // Runs the script in a file.
 fn run_file<
     F: Read + Write + Seek + FileExt + OpenFile + Drop + Send + Lockable,
-    R: Files<File = F> + AllocGlobal + Threads + Wait + Clock + Sync + MarkWriter,
+    R: Files<File = F> + AllocGlobal + Threads + Wait + Clock + Sync + MarkWriter<Handle = F>,
     L: FileReader,
     O: Sink,
     E: Write,
@@ -457,7 +545,7 @@ fn run_file<
 // Runs the script in the file that a word names, or in the input where the word is a hyphen.
 fn run_named<
     F: Read + Write + Seek + FileExt + OpenFile + Drop + Send + Lockable,
-    R: Files<File = F> + AllocGlobal + Threads + Wait + Clock + Sync + MarkWriter,
+    R: Files<File = F> + AllocGlobal + Threads + Wait + Clock + Sync + MarkWriter<Handle = F>,
     L: FileReader,
     I: Source,
     O: Sink,
@@ -495,40 +583,38 @@ fn run_named<
 }
 
 /// Runs as many nodes as a word names, over the folders in the folder DIR, by the script in a file or in the input, and prints
-/// the answers in a form. A word says how often nodes tick. One for their number that is none from 1 to 7, which the command line doesn't let
-/// through, ends with 2.
+/// the answers in a form. Words say how often nodes tick, and which are left down. One for their number that is none from 1 to 7, which the
+/// command line doesn't let through, ends with 2, as does one that isn't a list of nodes.
 pub(crate) fn run_by_words<
     F: Read + Write + Seek + FileExt + OpenFile + Drop + Send + Lockable,
-    R: Files<File = F> + AllocGlobal + Threads + Wait + Clock + Sync + MarkWriter,
+    R: Files<File = F> + AllocGlobal + Threads + Wait + Clock + Sync + MarkWriter<Handle = F>,
     L: FileReader,
     I: Source,
     O: Sink,
     E: Write,
->(
-    rt: &R,
-    files: &mut L,
-    nodes: &str,
-    dir: &str,
-    tape: Option<&str>,
-    tick: Option<&str>,
-    form: Form,
-    path: &str,
-    input: &mut I,
-    out: &mut O,
-    err: &mut E,
-) -> u8
-    ensures ends { EndsOnRun form nodes.now path.now (option_map (λ s. s.now) tape.entry) (record { input = I.reading input.old; files = L.held files.old }) (record { input = I.reading input.new; files = L.held files.new }) result (O.printing out.old) (O.printing out.new) }
-    ensures quiet { result ≡ 0 → TellsOfNamed path.now (record { input = I.reading input.old; files = L.held files.old }) (E.contents err.old) (E.contents err.new) }
+>(rt: &R, files: &mut L, words: &RunWords<'_>, input: &mut I, out: &mut O, err: &mut E) -> u8
+    ensures ends { EndsOnRun words.now.form words.now.nodes.now words.now.script.now (option_map (λ s. s.now) words.now.tape) (option_map (λ s. s.now) words.now.without) (record { input = I.reading input.old; files = L.held files.old }) (record { input = I.reading input.new; files = L.held files.new }) result (O.printing out.old) (O.printing out.new) }
+    ensures quiet { result ≡ 0 → TellsOfNamed words.now.script.now (record { input = I.reading input.old; files = L.held files.old }) (E.contents err.old) (E.contents err.new) }
 {
-    match nodes_of(nodes) {
-        Some(nodes) => {
-            let tick = tick_by(tick);
-            let manner = Manner { tick, form };
-            run_named(rt, files, nodes, dir, tape, manner, path, input, out, err)
-        }
-        None => {
-            let _ = writeln!(err, "rr: run: there is no such number of nodes");
-            2
-        }
-    }
+    let Some(nodes) = nodes_of(words.nodes) else {
+        return end_without_number(err);
+    };
+    let Some(without) = left_out_by(nodes, words.without) else {
+        return end_without_list(err, "run", nodes);
+    };
+    let manner = Manner {
+        tick: tick_by(words.tick),
+        without,
+        form: words.form,
+    };
+    let (dir, tape, path) = (words.dir, words.tape, words.script);
+    run_named(rt, files, nodes, dir, tape, manner, path, input, out, err)
+}
+
+// Ends where a word names no number of nodes.
+fn end_without_number<E: Write>(err: &mut E) -> u8
+    ensures { result ≡ 2 }
+{
+    let _ = writeln!(err, "rr: run: there is no such number of nodes");
+    2
 }

@@ -12,12 +12,13 @@ use crate::beside::talk_beside;
 use crate::closed::end_by_closed;
 use crate::console::Console;
 use crate::defaults::{FOLDER, nodes_by, show_begin};
+use crate::leaving_out::{end_without_list, left_out_by};
 use crate::post::{AtPost, Post};
 use crate::script_run::end_by_run_fault;
 use crate::teller::tellers;
 use crate::ticking::tick_by;
 use rr_cli::{ShellWords, end_by_refusal, end_by_stream, end_by_unprinted, number_in};
-use rr_folders::{Block, Folders, Lockable, MarkWriter, Reasons, open_folders};
+use rr_folders::{Block, Folders, Lockable, Locks, MarkWriter, Reasons, open_folders};
 use rr_shell::{Prompting, Stop, Trouble};
 use rr_stream::{Counted, Sink};
 use rr_text::text_word::{push_byte, push_bytes};
@@ -31,6 +32,17 @@ use std::rt::Files;
 use std::sync::Wait;
 use std::thread::Threads;
 use std::time::{Clock, Duration};
+
+/// How a shell talks: as which client, how long after a tick of a node the next is due, with JSON or not, whether it ends at the first line
+/// that isn't answered as asked, and which nodes are left down.
+#[derive(Clone, Copy, Debug)]
+struct Manner {
+    client: u32,
+    tick: Duration,
+    json: bool,
+    strict: bool,
+    without: NodeSet,
+}
 
 // The status behind a talk that is over: that of the trouble that ended it, or 0.
 fn ending_status(trouble: Option<Trouble>) -> u8
@@ -48,6 +60,7 @@ fn end_by_talk<R: Files + AllocGlobal, E: Write>(
     err: &mut E,
     dir: &str,
     nodes: Nodes,
+    without: NodeSet,
     reasons: &Reasons,
     talked: Result<Option<Trouble>, Stop>,
     refusal: Option<Refusal>,
@@ -59,19 +72,46 @@ where
 {
     match talked {
         Ok(trouble) => match refusal {
-            Some(refusal) => end_by_run_fault(rt, err, dir, nodes, reasons, &refusal),
+            Some(refusal) => end_by_run_fault(rt, err, dir, nodes, without, reasons, &refusal),
             None => ending_status(trouble),
         },
-        Err(Stop::Refused(refusal)) => end_by_run_fault(rt, err, dir, nodes, reasons, &refusal),
+        Err(Stop::Refused(refusal)) => {
+            end_by_run_fault(rt, err, dir, nodes, without, reasons, &refusal)
+        }
         Err(Stop::Unread(error)) => end_by_stream(err, "standard input", &error),
         Err(Stop::Unprinted(error)) => end_by_unprinted(err, &error),
+    }
+}
+
+// What a shell asks the nodes through at first, as this client.
+fn console_at<'x, 'y, F, R>(
+    rt: &'x R,
+    reasons: &'y Reasons,
+    locks: Locks<F>,
+    nodes: Nodes,
+    client: u32,
+    post: &'y Post,
+) -> Console<'x, 'y, AtPost<'y>, F, R> {
+    Console {
+        rt,
+        reasons,
+        locks,
+        nodes,
+        client,
+        block: Block::behind(0),
+        board: AtPost { post },
+        unanswered: None,
+        hint: None,
+        has_warned: false,
+        ear: None,
+        failed: NodeSet::empty(),
     }
 }
 
 // Talks over folders that are open, and lets their locks go behind the talk, with the console.
 fn shell_in<
     F: Read + Write + Seek + FileExt + OpenFile + Drop + Send,
-    R: Files<File = F> + AllocGlobal + Threads + Wait + Clock + Sync + MarkWriter,
+    R: Files<File = F> + AllocGlobal + Threads + Wait + Clock + Sync + MarkWriter<Handle = F>,
     I: Prompting,
     O: Sink + Send,
     E: Write,
@@ -79,10 +119,7 @@ fn shell_in<
     rt: &R,
     dir: &str,
     nodes: Nodes,
-    client: u32,
-    tick: Duration,
-    json: bool,
-    strict: bool,
+    manner: Manner,
     folders: Folders<'_, F, R>,
     input: &mut I,
     out: &mut O,
@@ -90,7 +127,7 @@ fn shell_in<
 ) -> u8
 where
     R::Dir: Send,
-    ensures ends { EndsOnShell json strict nodes (I.reading input.old) (I.reading input.new) result (O.printing out.old) (O.printing out.new) }
+    ensures ends { EndsOnShell manner.json manner.strict nodes (I.reading input.old) (I.reading input.new) result (O.printing out.old) (O.printing out.new) }
     ensures quiet { result ≡ 0 → Keeps (E.contents err.old) (E.contents err.new) }
 {
     let Folders {
@@ -102,7 +139,7 @@ where
     if let Err(refusal) = locks.see_numbers(rt) {
         return end_by_requests(err, dir, &refusal);
     }
-    let post = match Post::new(rt.alloc(), nodes, tick) {
+    let post = match Post::new(rt.alloc(), nodes, manner.tick, manner.without) {
         Ok(post) => post,
         Err(refusal) => return end_by_refusal(err, &refusal),
     };
@@ -110,32 +147,21 @@ where
         Ok(clients) => clients,
         Err(refusal) => return end_by_refusal(err, &refusal),
     };
-    let board = AtPost { post: &post };
-    let console = Console {
-        rt,
-        reasons: &reasons,
-        locks,
-        nodes,
-        client,
-        block: Block::behind(0),
-        board,
-        unanswered: None,
-        hint: None,
-        has_warned: false,
-        ear: None,
-        failed: NodeSet::empty(),
-    };
+    let console = console_at(rt, &reasons, locks, nodes, manner.client, &post);
+    let (json, strict) = (manner.json, manner.strict);
     let talked = talk_beside(
         rt, nodes, disks, clients, &post, json, strict, console, input, out,
     );
+    let refusal = post.into_refusal(rt, nodes);
     end_by_talk(
         rt,
         err,
         dir,
         nodes,
+        manner.without,
         &reasons,
         talked,
-        post.into_refusal(rt, nodes),
+        refusal,
     )
 }
 
@@ -175,31 +201,18 @@ fn client_of(word: Option<&str>) -> Option<u32>
 // Talks over the folders in the folder DIR.
 fn shell_over<
     F: Read + Write + Seek + FileExt + OpenFile + Drop + Send + Lockable,
-    R: Files<File = F> + AllocGlobal + Threads + Wait + Clock + Sync + MarkWriter,
+    R: Files<File = F> + AllocGlobal + Threads + Wait + Clock + Sync + MarkWriter<Handle = F>,
     I: Prompting,
     O: Sink + Send,
     E: Write,
->(
-    rt: &R,
-    nodes: Nodes,
-    dir: &str,
-    client: u32,
-    tick: Duration,
-    json: bool,
-    strict: bool,
-    input: &mut I,
-    out: &mut O,
-    err: &mut E,
-) -> u8
+>(rt: &R, nodes: Nodes, dir: &str, manner: Manner, input: &mut I, out: &mut O, err: &mut E) -> u8
 where
     R::Dir: Send,
-    ensures ends { EndsOnShell json strict nodes (I.reading input.old) (I.reading input.new) result (O.printing out.old) (O.printing out.new) }
+    ensures ends { EndsOnShell manner.json manner.strict nodes (I.reading input.old) (I.reading input.new) result (O.printing out.old) (O.printing out.new) }
     ensures quiet { result ≡ 0 → Keeps (E.contents err.old) (E.contents err.new) }
 {
-    match open_folders(rt, nodes, dir) {
-        Ok(folders) => shell_in(
-            rt, dir, nodes, client, tick, json, strict, folders, input, out, err,
-        ),
+    match open_folders(rt, nodes, dir, manner.without) {
+        Ok(folders) => shell_in(rt, dir, nodes, manner, folders, input, out, err),
         Err(closed) => end_by_closed(rt, err, dir, nodes, &closed),
     }
 }
@@ -220,51 +233,30 @@ fn lines_text(alloc: Global, lines: &[&str]) -> Result<Vec<u8>, Refusal>
 // Talks over the folders in the folder DIR, by these lines. The input is left alone.
 fn shell_by_lines<
     F: Read + Write + Seek + FileExt + OpenFile + Drop + Send + Lockable,
-    R: Files<File = F> + AllocGlobal + Threads + Wait + Clock + Sync + MarkWriter,
+    R: Files<File = F> + AllocGlobal + Threads + Wait + Clock + Sync + MarkWriter<Handle = F>,
     O: Sink + Send,
     E: Write,
->(
-    rt: &R,
-    nodes: Nodes,
-    dir: &str,
-    client: u32,
-    tick: Duration,
-    json: bool,
-    strict: bool,
-    lines: &[&str],
-    out: &mut O,
-    err: &mut E,
-) -> u8
+>(rt: &R, nodes: Nodes, dir: &str, manner: Manner, lines: &[&str], out: &mut O, err: &mut E) -> u8
 where
     R::Dir: Send,
-    ensures ends { EndsOnLines json strict nodes (map (λ s. s.now) lines.now) result (O.printing out.old) (O.printing out.new) }
+    ensures ends { EndsOnLines manner.json manner.strict nodes (map (λ s. s.now) lines.now) result (O.printing out.old) (O.printing out.new) }
     ensures quiet { result ≡ 0 → Keeps (E.contents err.old) (E.contents err.new) }
 {
     match lines_text(rt.alloc(), lines) {
         Ok(text) => {
             let mut spoken = Counted::new(text.as_slice());
-            shell_over(
-                rt,
-                nodes,
-                dir,
-                client,
-                tick,
-                json,
-                strict,
-                &mut spoken,
-                out,
-                err,
-            )
+            shell_over(rt, nodes, dir, manner, &mut spoken, out, err)
         }
         Err(refusal) => end_by_refusal(err, &refusal),
     }
 }
 
 /// Runs nodes over the folders in a folder, and answers lines, by these words. Without a number of nodes these are as many as
-/// the folder has, or else three. Words that are no such numbers, which the command line doesn't let through, end with 2.
+/// the folder has, or else three. Words that are no such numbers, which the command line doesn't let through, end with 2, as does one for nodes
+/// that are left down that isn't a list of these.
 pub(crate) fn shell_by_words<
     F: Read + Write + Seek + FileExt + OpenFile + Drop + Send + Lockable,
-    R: Files<File = F> + AllocGlobal + Threads + Wait + Clock + Sync + MarkWriter,
+    R: Files<File = F> + AllocGlobal + Threads + Wait + Clock + Sync + MarkWriter<Handle = F>,
     I: Prompting,
     O: Sink + Send,
     E: Write,
@@ -274,22 +266,30 @@ where
     ensures ends { EndsOnShellWords (shell_words_in words.now) (I.reading input.old) (I.reading input.new) result (O.printing out.old) (O.printing out.new) }
     ensures quiet { result ≡ 0 → Keeps (E.contents err.old) (E.contents err.new) }
 {
-    let (json, strict) = (words.json, words.strict);
     let dir = words.dir.unwrap_or(FOLDER);
-    let Some(nodes) = nodes_by(rt, words.nodes, dir) else {
+    let Some(nodes) = nodes_by(rt, words.nodes, dir, words.without) else {
         return end_without_numbers(err);
     };
     let Some(client) = client_of(words.client) else {
         return end_without_numbers(err);
     };
-    let tick = tick_by(words.tick);
+    let Some(without) = left_out_by(nodes, words.without) else {
+        return end_without_list(err, "shell", nodes);
+    };
+    let manner = Manner {
+        client,
+        tick: tick_by(words.tick),
+        json: words.json,
+        strict: words.strict,
+        without,
+    };
     let lines = words.lines.as_slice();
     match lines {
         [] => {
-            show_begin(rt, nodes, dir, client, input);
-            shell_over(rt, nodes, dir, client, tick, json, strict, input, out, err)
+            show_begin(rt, nodes, dir, client, without, input);
+            shell_over(rt, nodes, dir, manner, input, out, err)
         }
-        [_, ..] => shell_by_lines(rt, nodes, dir, client, tick, json, strict, lines, out, err),
+        [_, ..] => shell_by_lines(rt, nodes, dir, manner, lines, out, err),
     }
 }
 

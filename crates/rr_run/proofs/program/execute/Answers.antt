@@ -12,19 +12,19 @@ use Rattle.rr_run.specs.Runs.{AsksForThreads, by_script, by_shell, by_others, ou
 use Rattle.rr_run.specs.Telling.{silent, told}
 use Rattle.rr_run.proofs.program.execute.Goals as goal
 
--- the task that five words and a form make
-run_from : (a b c d e w x y : Option (Bor (List ℕ))) (form : Form) → a ≡ w → b ≡ x → c ≡ y → task_in (read.Run a b c d e form) ≡ task_in (read.Run w x y d e form)
-run_from a b c d e w x y form p q r = rw (p, q, r) refl
+-- the task that six words and a form make
+run_from : (a b c d e f w x y : Option (Bor (List ℕ))) (form : Form) → a ≡ w → b ≡ x → c ≡ y → task_in (read.Run a b c d e f form) ≡ task_in (read.Run w x y d e f form)
+run_from a b c d e f w x y form p q r = rw (p, q, r) refl
 
 -- no kind is among none
 none_among : (kind : ErrorKind) (kinds : Kinds) → IsAmong kind kinds → kinds ≡ [] → ⊥
 none_among kind kinds among none = subst (λ ks. IsAmong kind ks) none among
 
-pub returns-in-Ok-Run-Some-Some-Some-default-default-default-clause-ends : goal.returns-in-Ok-Run-Some-Some-Some-default-default-default-clause-ends
-returns-in-Ok-Run-Some-Some-Some-default-default-default-clause-ends g c =
-    let w = c.in-Ok-Run-Some-Some-Some-default-default-default in
-    let task : task_of (map g.S.AsStr.text c.args.words.now) ≡ Run (Some w.nodes.now) (Some w.dir.now) (Some w.script.now) (option_map (λ s. s.now) w.tape) (option_map (λ s. s.now) w.tick) w.form = sym w.ensures.task ∙ ap task_in w.field-0-is ∙ run_from _ _ _ _ _ _ _ _ _ w.field-0-0-is w.field-0-1-is w.field-0-2-is in
-    by_script (record { nodes = w.nodes.now; dir = w.dir.now; script = w.script.now; tape = option_map (λ s. s.now) w.tape; tick = option_map (λ s. s.now) w.tick; form = w.form; is = task }) w.ensures.faults c.run_by_words.ensures.ends
+pub returns-in-Ok-Run-Some-Some-Some-default-default-default-default-clause-ends : goal.returns-in-Ok-Run-Some-Some-Some-default-default-default-default-clause-ends
+returns-in-Ok-Run-Some-Some-Some-default-default-default-default-clause-ends g c =
+    let w = c.in-Ok-Run-Some-Some-Some-default-default-default-default in
+    let task : task_of (map g.S.AsStr.text c.args.words.now) ≡ Run (Some w.nodes.now) (Some w.dir.now) (Some w.script.now) (option_map (λ s. s.now) w.tape) (option_map (λ s. s.now) w.tick) (option_map (λ s. s.now) w.without) w.form = sym w.ensures.task ∙ ap task_in w.field-0-is ∙ run_from _ _ _ _ _ _ _ _ _ _ w.field-0-0-is w.field-0-1-is w.field-0-2-is in
+    by_script (record { nodes = w.nodes.now; dir = w.dir.now; script = w.script.now; tape = option_map (λ s. s.now) w.tape; tick = option_map (λ s. s.now) w.tick; without = option_map (λ s. s.now) w.without; form = w.form; is = task }) w.ensures.faults c.run_by_words.ensures.ends
 
 pub returns-in-Err-clause-ends : goal.returns-in-Err-clause-ends
 returns-in-Err-clause-ends g c =
@@ -43,32 +43,32 @@ abbrev text_of : Option (Bor (List ℕ)) → Option Text
 text_of word = option_map (λ s. s.now) word
 
 -- what isn't a run or a shell with all its words
-without_dir : (a c d e : Option Text) (form : Form) → AsksForThreads (Run a None c d e form) → ⊥
-without_dir None c d e form asks = asks
-without_dir (Some n) c d e form asks = asks
+without_dir : (a c d e f : Option Text) (form : Form) → AsksForThreads (Run a None c d e f form) → ⊥
+without_dir None c d e f form asks = asks
+without_dir (Some n) c d e f form asks = asks
 
-without_script : (a b d e : Option Text) (form : Form) → AsksForThreads (Run a b None d e form) → ⊥
-without_script None b d e form asks = asks
-without_script (Some n) None d e form asks = asks
-without_script (Some n) (Some x) d e form asks = asks
+without_script : (a b d e f : Option Text) (form : Form) → AsksForThreads (Run a b None d e f form) → ⊥
+without_script None b d e f form asks = asks
+without_script (Some n) None d e f form asks = asks
+without_script (Some n) (Some x) d e f form asks = asks
 
-pub returns-in-Ok-Run-None-default-default-default-default-default-clause-ends : goal.returns-in-Ok-Run-None-default-default-default-default-default-clause-ends
-returns-in-Ok-Run-None-default-default-default-default-default-clause-ends g c =
-    let w = c.in-Ok-Run-None-default-default-default-default-default in
-    let task : task_of (map g.S.AsStr.text c.args.words.now) ≡ Run None (text_of w.field-0-1) (text_of w.field-0-2) (text_of w.field-0-3) (text_of w.field-0-4) w.field-0-5 = sym w.ensures.task ∙ ap task_in w.field-0-is ∙ run_from _ _ _ _ _ _ _ _ _ w.field-0-0-is refl refl in
-    by_others (λ none asks. subst (λ t. AsksForThreads t) task asks) c.execute_with_views-in-Ok-Run-None-default-default-default-default-default.ensures.ends
+pub returns-in-Ok-Run-None-default-default-default-default-default-default-clause-ends : goal.returns-in-Ok-Run-None-default-default-default-default-default-default-clause-ends
+returns-in-Ok-Run-None-default-default-default-default-default-default-clause-ends g c =
+    let w = c.in-Ok-Run-None-default-default-default-default-default-default in
+    let task : task_of (map g.S.AsStr.text c.args.words.now) ≡ Run None (text_of w.field-0-1) (text_of w.field-0-2) (text_of w.field-0-3) (text_of w.field-0-4) (text_of w.field-0-5) w.field-0-6 = sym w.ensures.task ∙ ap task_in w.field-0-is ∙ run_from _ _ _ _ _ _ _ _ _ _ w.field-0-0-is refl refl in
+    by_others (λ none asks. subst (λ t. AsksForThreads t) task asks) c.execute_with_views-in-Ok-Run-None-default-default-default-default-default-default.ensures.ends
 
-pub returns-in-Ok-Run-default-None-default-default-default-default-clause-ends : goal.returns-in-Ok-Run-default-None-default-default-default-default-clause-ends
-returns-in-Ok-Run-default-None-default-default-default-default-clause-ends g c =
-    let w = c.in-Ok-Run-default-None-default-default-default-default in
-    let task : task_of (map g.S.AsStr.text c.args.words.now) ≡ Run (text_of w.field-0-0) None (text_of w.field-0-2) (text_of w.field-0-3) (text_of w.field-0-4) w.field-0-5 = sym w.ensures.task ∙ ap task_in w.field-0-is ∙ run_from _ _ _ _ _ _ _ _ _ refl w.field-0-1-is refl in
-    by_others (λ none asks. without_dir (text_of w.field-0-0) (text_of w.field-0-2) (text_of w.field-0-3) (text_of w.field-0-4) w.field-0-5 (subst (λ t. AsksForThreads t) task asks)) c.execute_with_views-in-Ok-Run-default-None-default-default-default-default.ensures.ends
+pub returns-in-Ok-Run-default-None-default-default-default-default-default-clause-ends : goal.returns-in-Ok-Run-default-None-default-default-default-default-default-clause-ends
+returns-in-Ok-Run-default-None-default-default-default-default-default-clause-ends g c =
+    let w = c.in-Ok-Run-default-None-default-default-default-default-default in
+    let task : task_of (map g.S.AsStr.text c.args.words.now) ≡ Run (text_of w.field-0-0) None (text_of w.field-0-2) (text_of w.field-0-3) (text_of w.field-0-4) (text_of w.field-0-5) w.field-0-6 = sym w.ensures.task ∙ ap task_in w.field-0-is ∙ run_from _ _ _ _ _ _ _ _ _ _ refl w.field-0-1-is refl in
+    by_others (λ none asks. without_dir (text_of w.field-0-0) (text_of w.field-0-2) (text_of w.field-0-3) (text_of w.field-0-4) (text_of w.field-0-5) w.field-0-6 (subst (λ t. AsksForThreads t) task asks)) c.execute_with_views-in-Ok-Run-default-None-default-default-default-default-default.ensures.ends
 
-pub returns-in-Ok-Run-default-default-None-default-default-default-clause-ends : goal.returns-in-Ok-Run-default-default-None-default-default-default-clause-ends
-returns-in-Ok-Run-default-default-None-default-default-default-clause-ends g c =
-    let w = c.in-Ok-Run-default-default-None-default-default-default in
-    let task : task_of (map g.S.AsStr.text c.args.words.now) ≡ Run (text_of w.field-0-0) (text_of w.field-0-1) None (text_of w.field-0-3) (text_of w.field-0-4) w.field-0-5 = sym w.ensures.task ∙ ap task_in w.field-0-is ∙ run_from _ _ _ _ _ _ _ _ _ refl refl w.field-0-2-is in
-    by_others (λ none asks. without_script (text_of w.field-0-0) (text_of w.field-0-1) (text_of w.field-0-3) (text_of w.field-0-4) w.field-0-5 (subst (λ t. AsksForThreads t) task asks)) c.execute_with_views.ensures.ends
+pub returns-in-Ok-Run-default-default-None-default-default-default-default-clause-ends : goal.returns-in-Ok-Run-default-default-None-default-default-default-default-clause-ends
+returns-in-Ok-Run-default-default-None-default-default-default-default-clause-ends g c =
+    let w = c.in-Ok-Run-default-default-None-default-default-default-default in
+    let task : task_of (map g.S.AsStr.text c.args.words.now) ≡ Run (text_of w.field-0-0) (text_of w.field-0-1) None (text_of w.field-0-3) (text_of w.field-0-4) (text_of w.field-0-5) w.field-0-6 = sym w.ensures.task ∙ ap task_in w.field-0-is ∙ run_from _ _ _ _ _ _ _ _ _ _ refl refl w.field-0-2-is in
+    by_others (λ none asks. without_script (text_of w.field-0-0) (text_of w.field-0-1) (text_of w.field-0-3) (text_of w.field-0-4) (text_of w.field-0-5) w.field-0-6 (subst (λ t. AsksForThreads t) task asks)) c.execute_with_views.ensures.ends
 
 pub returns-in-Ok-Shell-clause-ends : goal.returns-in-Ok-Shell-clause-ends
 returns-in-Ok-Shell-clause-ends g c =
@@ -136,23 +136,23 @@ returns-in-Ok-Export-clause-ends g c =
     let task : task_of (map g.S.AsStr.text c.args.words.now) ≡ Export (text_of w.field-0-0) w.field-0-1 = sym w.ensures.task ∙ ap task_in w.field-0-is in
     by_others (λ none asks. subst (λ t. AsksForThreads t) task asks) c.execute_with_views-in-Ok-Export.ensures.ends
 
-pub returns-in-Ok-Run-Some-Some-Some-default-default-default-clause-quiet : goal.returns-in-Ok-Run-Some-Some-Some-default-default-default-clause-quiet
-returns-in-Ok-Run-Some-Some-Some-default-default-default-clause-quiet g c =
-    let w = c.in-Ok-Run-Some-Some-Some-default-default-default in
-    let task : task_of (map g.S.AsStr.text c.args.words.now) ≡ Run (Some w.nodes.now) (Some w.dir.now) (Some w.script.now) (option_map (λ s. s.now) w.tape) (option_map (λ s. s.now) w.tick) w.form = sym w.ensures.task ∙ ap task_in w.field-0-is ∙ run_from _ _ _ _ _ _ _ _ _ w.field-0-0-is w.field-0-1-is w.field-0-2-is in
-    λ ended. told (record { nodes = w.nodes.now; dir = w.dir.now; script = w.script.now; tape = option_map (λ s. s.now) w.tape; tick = option_map (λ s. s.now) w.tick; form = w.form; is = task }) w.ensures.faults (c.run_by_words.ensures.quiet ended)
+pub returns-in-Ok-Run-Some-Some-Some-default-default-default-default-clause-quiet : goal.returns-in-Ok-Run-Some-Some-Some-default-default-default-default-clause-quiet
+returns-in-Ok-Run-Some-Some-Some-default-default-default-default-clause-quiet g c =
+    let w = c.in-Ok-Run-Some-Some-Some-default-default-default-default in
+    let task : task_of (map g.S.AsStr.text c.args.words.now) ≡ Run (Some w.nodes.now) (Some w.dir.now) (Some w.script.now) (option_map (λ s. s.now) w.tape) (option_map (λ s. s.now) w.tick) (option_map (λ s. s.now) w.without) w.form = sym w.ensures.task ∙ ap task_in w.field-0-is ∙ run_from _ _ _ _ _ _ _ _ _ _ w.field-0-0-is w.field-0-1-is w.field-0-2-is in
+    λ ended. told (record { nodes = w.nodes.now; dir = w.dir.now; script = w.script.now; tape = option_map (λ s. s.now) w.tape; tick = option_map (λ s. s.now) w.tick; without = option_map (λ s. s.now) w.without; form = w.form; is = task }) w.ensures.faults (c.run_by_words.ensures.quiet ended)
 
 pub returns-in-Err-clause-quiet : goal.returns-in-Err-clause-quiet
 returns-in-Err-clause-quiet g c = λ ended. silent (c.end_by_words.ensures.quiet ended)
 
-pub returns-in-Ok-Run-None-default-default-default-default-default-clause-quiet : goal.returns-in-Ok-Run-None-default-default-default-default-default-clause-quiet
-returns-in-Ok-Run-None-default-default-default-default-default-clause-quiet g c = λ ended. silent (c.execute_with_views-in-Ok-Run-None-default-default-default-default-default.ensures.quiet ended)
+pub returns-in-Ok-Run-None-default-default-default-default-default-default-clause-quiet : goal.returns-in-Ok-Run-None-default-default-default-default-default-default-clause-quiet
+returns-in-Ok-Run-None-default-default-default-default-default-default-clause-quiet g c = λ ended. silent (c.execute_with_views-in-Ok-Run-None-default-default-default-default-default-default.ensures.quiet ended)
 
-pub returns-in-Ok-Run-default-None-default-default-default-default-clause-quiet : goal.returns-in-Ok-Run-default-None-default-default-default-default-clause-quiet
-returns-in-Ok-Run-default-None-default-default-default-default-clause-quiet g c = λ ended. silent (c.execute_with_views-in-Ok-Run-default-None-default-default-default-default.ensures.quiet ended)
+pub returns-in-Ok-Run-default-None-default-default-default-default-default-clause-quiet : goal.returns-in-Ok-Run-default-None-default-default-default-default-default-clause-quiet
+returns-in-Ok-Run-default-None-default-default-default-default-default-clause-quiet g c = λ ended. silent (c.execute_with_views-in-Ok-Run-default-None-default-default-default-default-default.ensures.quiet ended)
 
-pub returns-in-Ok-Run-default-default-None-default-default-default-clause-quiet : goal.returns-in-Ok-Run-default-default-None-default-default-default-clause-quiet
-returns-in-Ok-Run-default-default-None-default-default-default-clause-quiet g c = λ ended. silent (c.execute_with_views.ensures.quiet ended)
+pub returns-in-Ok-Run-default-default-None-default-default-default-default-clause-quiet : goal.returns-in-Ok-Run-default-default-None-default-default-default-default-clause-quiet
+returns-in-Ok-Run-default-default-None-default-default-default-default-clause-quiet g c = λ ended. silent (c.execute_with_views.ensures.quiet ended)
 
 pub returns-in-Ok-Shell-clause-quiet : goal.returns-in-Ok-Shell-clause-quiet
 returns-in-Ok-Shell-clause-quiet g c = λ ended. silent (c.shell_by_words.ensures.quiet ended)

@@ -1,9 +1,9 @@
-use Rattle.std.proofs.Common.{refl}
-use Rattle.rr_run.specs.Runs.{numbered, unnumbered}
+use Rattle.std.proofs.Common.{refl, sym}
+use Rattle.rr_run.specs.Runs.{numbered, unleft}
 use Rattle.rr_run.proofs.script_run.run_by_words.Goals as goal
 
-pub returns-in-Some-clause-ends : goal.returns-in-Some-clause-ends
-returns-in-Some-clause-ends g c = numbered c.in-Some.nodes c.in-Some.ensures.some c.run_named.ensures.ends
+pub returns-clause-ends : goal.returns-clause-ends
+returns-clause-ends g c = numbered c.in-Some.nodes c.in-Some-left_out_by.without c.in-Some.ensures.some (sym c.in-Some-left_out_by.ensures) c.run_named.ensures.ends
 
-pub returns-in-None-clause-ends : goal.returns-in-None-clause-ends
-returns-in-None-clause-ends g c = unnumbered (c.nodes_of.ensures.none c.in-None.is) refl refl refl
+pub returns-in_default-left_out_by-clause-ends : goal.returns-in_default-left_out_by-clause-ends
+returns-in_default-left_out_by-clause-ends g c = unleft c.in-Some.nodes c.in-Some.ensures.some (sym c.in_default-left_out_by.ensures) c.end_without_list.ensures refl refl

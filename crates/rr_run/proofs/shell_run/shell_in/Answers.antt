@@ -4,7 +4,7 @@ use Rattle.rr_run.proofs.shell_run.shell_in.Goals as goal
 
 pub returns-clause-ends : goal.returns-clause-ends
 returns-clause-ends g c =
-    ends_so c.args.json c.args.strict c.args.nodes (g.I.Source.reading c.args.input.now) (g.I.Source.reading c.talk_beside-talked.new.input) (g.O.Sink.printing c.args.out.now) (g.O.Sink.printing c.talk_beside-talked.new.out) c.talk_beside-talked.result c.into_refusal.result
+    ends_so c.args.manner.json c.args.manner.strict c.args.nodes (g.I.Source.reading c.args.input.now) (g.I.Source.reading c.talk_beside-talked.new.input) (g.O.Sink.printing c.args.out.now) (g.O.Sink.printing c.talk_beside-talked.new.out) c.talk_beside-talked.result c.into_refusal-refusal.result
     c.end_by_talk.result c.talk_beside-talked.ensures c.end_by_talk.ensures.ends
 
 pub returns-in-Err-clause-quiet : goal.returns-in-Err-clause-quiet
