@@ -2,7 +2,7 @@
 
 ghost use Rattle.std.specs.Prelude.{◌≡◌, ◌≤◌, [], length, All, IfOk, IfSome};
 ghost use Rattle.rr_client.specs.FreshNumbers.{least_free};
-ghost use Rattle.rr_client.specs.Seating.{HasOwnNumbers};
+ghost use Rattle.rr_client.specs.Seating.{HasOwnNumbers, is_left_out, left_out_in};
 
 use crate::error::ClusterError;
 use crate::guest::Place;
@@ -10,7 +10,7 @@ use crate::numbers::block_from;
 use crate::promises::least_free;
 use crate::seated::{Coming, Seated, Slot};
 use rr_folders::Block;
-use rr_types::{Nodes, Promise, Refusal};
+use rr_types::{NodeId, NodeSet, Nodes, Promise, Refusal};
 use std::alloc::Global;
 use std::rt::Files;
 use std::sync::Mutex;
@@ -52,6 +52,32 @@ fn own_numbers<R: Files + AllocGlobal>(
         return Err(ClusterError::Numbers { refusal });
     };
     block_from(rt, dir, least)
+}
+
+// Whether a node is left out.
+fn is_left_out(without: NodeSet, node: u8) -> bool
+    ensures { result ≡ is_left_out without node }
+{
+    match NodeId::at(node) {
+        Some(node) => without.contains(node),
+        None => false,
+    }
+}
+
+/// The node that is left out and that a guest asks, the first of them.
+pub(crate) fn left_out_in<G>(without: NodeSet, places: &[Place<G>]) -> Option<u8>
+    ensures { result ≡ left_out_in without places.now }
+{
+    match places {
+        [] => None,
+        [first, rest @ ..] => {
+            if is_left_out(without, first.node) {
+                Some(first.node)
+            } else {
+                left_out_in(without, rest)
+            }
+        }
+    }
 }
 
 /// The guests at their nodes, each with a slot and with request numbers above all that the promises name as its client's.

@@ -22,6 +22,11 @@ pub enum ClusterError {
         node: u8,
         last: u8,
     },
+    /// A guest asks a node that is left out.
+    #[error("a guest asks node {node}, which is left out")]
+    LeftOut {
+        node: u8,
+    },
     /// Another program has locked the folder of this path.
     #[error("{path}: another program has locked it")]
     InUse {
@@ -134,6 +139,8 @@ fn fault_text(fault: &Fault) -> &'static str {
         }
         Fault::Outdated =>
             "it is an older copy of itself, so the node can't know any more what it promised",
+        Fault::LeftOut => "it is left out, and more than half of the nodes have to be there",
+        Fault::Unfounded => "it is left out, and there is no cluster yet that could do without it",
     }
 }
 

@@ -7,13 +7,14 @@ use crate::error::ClusterError;
 use rr_disk::Disk;
 use rr_folders::greatest_in;
 use rr_journal::Journal;
-use rr_types::{NodeId, Nodes, Promise};
+use rr_types::{NodeId, NodeSet, Nodes, Promise};
 use std::alloc::Global;
 
-/// The promises of the facts that the disks of nodes hold, and the disks.
+/// The promises of the facts that the disks of nodes hold, and the disks. Those of nodes that are left out aren't opened: they name nothing.
 pub(crate) fn promises_of<D: Disk + Drop>(
     alloc: Global,
     nodes: Nodes,
+    without: NodeSet,
     disks: Vec<D>,
 ) -> Result<(Vec<Promise>, Vec<D>), ClusterError>
     requires alike { (one other : D) → D.tells one → D.tells other }
@@ -28,6 +29,11 @@ pub(crate) fn promises_of<D: Disk + Drop>(
         let Some(node) = NodeId::new(nodes, index as u8) else {
             break;
         };
+        if without.contains(node) {
+            promises.push(Promise::new(Vec::new(alloc)))?;
+            back.push(disk)?;
+            continue;
+        }
         match Journal::open(alloc, nodes, node, disk) {
             Err((refusal, _)) => return Err(ClusterError::Unopened { node, refusal }),
             Ok((journal, opened)) => {
