@@ -24,7 +24,14 @@ use std::{env, fs, io};
 /// Whether a row gives what it wants; what came otherwise is printed.
 fn is_right<
     F: Read + Write + Seek + FileExt + OpenFile + Drop + Send + Lockable,
-    R: Files<File = F> + Print + AllocGlobal + Threads + Wait + Clock + Sync + MarkWriter,
+    R: Files<File = F>
+        + Print
+        + AllocGlobal
+        + Threads
+        + Wait
+        + Clock
+        + Sync
+        + MarkWriter<Handle = F>,
 >(rt: &R, library: Library, row: &str) -> io::Result<bool>
 where
     R::Dir: Send,
@@ -37,7 +44,14 @@ where
 /// How many rows of a file come otherwise.
 fn count_faults<
     F: Read + Write + Seek + FileExt + OpenFile + Drop + Send + Lockable,
-    R: Files<File = F> + Print + AllocGlobal + Threads + Wait + Clock + Sync + MarkWriter,
+    R: Files<File = F>
+        + Print
+        + AllocGlobal
+        + Threads
+        + Wait
+        + Clock
+        + Sync
+        + MarkWriter<Handle = F>,
 >(rt: &R, library: Library, path: &str) -> io::Result<u64>
 where
     R::Dir: Send,

@@ -86,7 +86,7 @@ fn text(bytes: Vec<u8>) -> io::Result<String> {
 /// What the words of a row give with this input.
 fn run<
     F: Read + Write + Seek + FileExt + OpenFile + Drop + Send + Lockable,
-    R: Files<File = F> + AllocGlobal + Threads + Wait + Clock + Sync + MarkWriter,
+    R: Files<File = F> + AllocGlobal + Threads + Wait + Clock + Sync + MarkWriter<Handle = F>,
 >(rt: &R, library: Library, words: &[String], input: &str) -> io::Result<Outcome>
 where
     R::Dir: Send,
@@ -112,7 +112,7 @@ where
 /// What a row gives: it has one line `rr WORDS`.
 pub fn outcome_of<
     F: Read + Write + Seek + FileExt + OpenFile + Drop + Send + Lockable,
-    R: Files<File = F> + AllocGlobal + Threads + Wait + Clock + Sync + MarkWriter,
+    R: Files<File = F> + AllocGlobal + Threads + Wait + Clock + Sync + MarkWriter<Handle = F>,
 >(rt: &R, library: Library, row: &str) -> io::Result<Outcome>
 where
     R::Dir: Send,

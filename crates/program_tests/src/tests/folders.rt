@@ -27,7 +27,14 @@ const WORDS: [&str; 8] = [
 /// Asserts that the command of these words ends with this status, this output and this error.
 fn assert_ended<
     F: Read + Write + Seek + FileExt + OpenFile + Drop + Send + Lockable,
-    R: Files<File = F> + AllocGlobal + Threads + Wait + Clock + Sync + MarkWriter + Abort,
+    R: Files<File = F>
+        + AllocGlobal
+        + Threads
+        + Wait
+        + Clock
+        + Sync
+        + MarkWriter<Handle = F>
+        + Abort,
 >(rt: &R, words: &[&str], status: u8, text: &str, error: &str)
 where
     R::Dir: Send,
