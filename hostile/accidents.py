@@ -35,7 +35,6 @@ NOT_YET = {
     "calls of a first start": "a first start fails at a call, and the reason is `No such file or directory`, of a look behind the clearing up",
     "each write wants room": "where a full file system refuses writes in place too, the shell doesn't start even to look",
     "made by a pipe": "`rr shell --dir WRONG -c LINE` makes a registry of three nodes, and says nothing",
-    "nodes that differ": "two nodes that have decided differently answer side by side, and only the next start says so",
     "four of seven under load": "right behind claims three of seven nodes stop: in one try of a hundred the next claim takes 59 ticks or more",
     "exported though refused": "`rr export` takes the list of a folder that a start refuses, and says nothing: an altered name is exported",
 }
@@ -51,7 +50,7 @@ LINES = ("claim a x", "snapshot 0", "claim b y", "look a")
 def tasks(options):
     calls = [("calls", start, kind, how) for start in ("fresh", "used") for kind in KINDS for how in ERRORS]
     lone = [("bits", snapshots) for snapshots in (0, 1)]
-    return calls + lone + [("room",), *((name,) for name in NOT_YET if name not in LITTLE)]
+    return calls + lone + [("room",), ("nodes that differ",), *((name,) for name in NOT_YET if name not in LITTLE)]
 
 
 def work(rig, options, task):
@@ -201,21 +200,7 @@ class Accident:
             found[bit // 8] ^= 1 << bit % 8
             lone.harmed(f"bit {bit} of the active area", (0,), snapshots % 2, {0: bytes(found)})
 
-    # ---- what isn't there yet
-
-    def each_write_wants_room(self):
-        """Where no write goes at all, as on a full disk that writes nothing in place, a registry is looked at."""
-        self.check(self.shell("claim a x") == (0, b"claimed\n", b""), "no cluster begins")
-        env = {"LD_PRELOAD": self.options.preload_calls, "FAIL_CALL": "change", "FAIL_PATH": self.folder}
-        env.update(FAIL_NTH="1", FAIL_MANY="1000000", FAIL_HOW=str(errno.ENOSPC))
-        got = self.shell("look a", env=env)
-        self.check(got[:2] == (0, b"a bound 7 x\n"), f"a look where nothing can be written: {got} {self.rig.why}")
-
-    def made_by_a_pipe(self):
-        """A DIR that was given wrongly makes no registry without a word, also where nobody types."""
-        status, out, err = self.shell("look a")
-        is_made, said = os.path.exists(self.folder), err + self.rig.why
-        self.check((b"new" in said and self.folder.encode() in said) if is_made else status, f"a new registry: {status} {out} {said}")
+    # ---- nodes that differ
 
     def nodes_that_differ(self):
         """A node that forgot lets two nodes decide differently. Both are up: no two answers differ, or somebody says so."""
@@ -237,6 +222,22 @@ class Accident:
             answers.append([shell.ask(line) for line in (f"at {node}", "sync", "look b")][2])
         ended = shell.end()
         self.check(len({*answers}) == 1 or ended != (0, b""), f"nodes that differ answer {answers}, and the shell ended with {ended}")
+
+    # ---- what isn't there yet
+
+    def each_write_wants_room(self):
+        """Where no write goes at all, as on a full disk that writes nothing in place, a registry is looked at."""
+        self.check(self.shell("claim a x") == (0, b"claimed\n", b""), "no cluster begins")
+        env = {"LD_PRELOAD": self.options.preload_calls, "FAIL_CALL": "change", "FAIL_PATH": self.folder}
+        env.update(FAIL_NTH="1", FAIL_MANY="1000000", FAIL_HOW=str(errno.ENOSPC))
+        got = self.shell("look a", env=env)
+        self.check(got[:2] == (0, b"a bound 7 x\n"), f"a look where nothing can be written: {got} {self.rig.why}")
+
+    def made_by_a_pipe(self):
+        """A DIR that was given wrongly makes no registry without a word, also where nobody types."""
+        status, out, err = self.shell("look a")
+        is_made, said = os.path.exists(self.folder), err + self.rig.why
+        self.check((b"new" in said and self.folder.encode() in said) if is_made else status, f"a new registry: {status} {out} {said}")
 
     def exported_though_refused(self):
         """A start refuses a folder whose list is the longest, as its bytes are others. An export doesn't take its altered name without a word."""

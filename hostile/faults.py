@@ -5,7 +5,8 @@ that is asked at another node is acknowledged all the same. Of a node that fails
 said. At the end the disks of the whole nodes, read by reading.py, hold what registry.py makes of all that was acknowledged. So does a
 `list` behind a `sync` at each. Then the cluster is opened again: with the folder as it was left, or put back from a copy. Either it serves,
 and each node has all that was acknowledged. Or it is refused: it names the folder and says why, changes nothing, `rr verify` doesn't call it
-agreeing, and `rr export` has all.
+agreeing, and `rr export` has all. A start is refused whose folder of one node is missing, damaged, full or read-only. Without that node it serves, and
+writes nothing there. A node that was stopped isn't started over another folder than its own, or over one that isn't as it was left.
 
 What today's program can't do yet is written here too. It's skipped by name, unless --all is given.
 """
@@ -32,20 +33,14 @@ BEFORE, DURING, BEHIND, FIRST = 20, 30, 8, 5
 DEVICES = {"ENOSPC": "No space left on device", "EROFS": "Read-only file system", "EIO": "Input/output error"}
 # A small file system of its own, in bytes.
 ROOM = 65536
+# Faults at a start, and what the system says of them where it says something.
+AT_A_START = {"missing": None, "damaged": None, "full": "ENOSPC", "read-only": "EROFS"}
+STARTED = ("removed, and started", "replaced, and started", "damaged, and started", "removed, and told")
 # What isn't there yet: the case, and what happens today.
 NOT_YET = {
-    "missing at a start": "the shell ends with 5 and says that DIR/1 is gone, although a majority is whole",
-    "damaged at a start": "the shell ends with 5 and says that DIR/1 has other bytes than its mark, although a majority is whole",
-    "full at a start": "the shell ends with 5 and says that DIR/1/a0 can't be written, although a majority is whole",
-    "read-only at a start": "the shell ends with 5 and says that DIR/1/a0 can't be opened, although a majority is whole",
-    "removed, and started": "`start 1` says `started 1` over files that have no name any more, and what node 1 writes is lost",
-    "replaced, and started": "`start 1` says `started 1` over the files of before, and the folder that was put there stays as it is",
-    "damaged, and started": "`start 1` says `started 1` over bytes that its mark would refuse at a start of the shell",
-    "removed, and told": "a snapshot fails, and `status` says only that some file couldn't be read or written",
     "removed, and told at the end": "a shell whose node wrote to a folder that is gone ends with 0 and says nothing",
     "removed, and put back older": "behind such an end DIR/marks is as before, so an older copy is served, and two nodes can decide differently",
 }
-LATER = {"missing": "removed", "damaged": "damaged", "full": "ENOSPC", "read-only": "EROFS"}
 
 
 def tasks(options):
@@ -57,7 +52,8 @@ def tasks(options):
     found += [(kind, *it, is_back) for it in places for kind in ("removed while stopped", "damaged while stopped") for is_back in (True, False)]
     found += [(kind, *it) for it in places for kind in ("removed", "damaged", "mounted")]
     found += [("damaged anywhere", *it, options.seed + seed) for it in places for seed in range(2 if options.short else 12)]
-    return found + [(name, 3, 1) for name in NOT_YET]
+    found += [("at a start", *it, how) for it in places for how in AT_A_START]
+    return found + [(kind, *it) for it in places for kind in STARTED] + [(name, 3, 1) for name in NOT_YET]
 
 
 def work(rig, options, task):
@@ -142,11 +138,12 @@ class Faulty:
         self.ask_each(range(self.nodes), BEFORE // self.nodes + 1)
         self.end()
 
-    def open(self, how=None):
-        """Starts a shell; while there is the file `flag`, each call that would change something in the folder is refused so."""
+    def open(self, how=None, without=False):
+        """Starts a shell, without the node where that is asked for. While there is the file `flag`, each call that would change something in the folder is refused so."""
         env = {"LD_PRELOAD": self.options.preload_calls, "FAIL_CALL": "change", "FAIL_PATH": f"{self.path}/", "FAIL_NTH": "1"}
         env.update(FAIL_MANY="1000000", FAIL_WHILE=self.flag, FAIL_HOW=str(getattr(errno, how or "EIO")))
-        self.shell = shell_kills.Shell(self.rig.rr, self.nodes, self.folder, env if how else {})
+        more = ("--without", str(self.node)) if without else ()
+        self.shell = shell_kills.Shell(self.rig.rr, self.nodes, self.folder, env if how else {}, more=more)
 
     def burst(self, node, count, harm=None, may_fail=False):
         """Asks so many commands at a node ahead of their answers; the harm is done behind the first answers."""
@@ -216,7 +213,7 @@ class Faulty:
         while states[self.node].startswith(f"node {self.node} up ") and time.monotonic() < until:
             time.sleep(0.02)
             states = self.states()
-        failed = re.fullmatch(rf"node {self.node} failed: {self.node}/a[01]: [a-z]+ing: {reason} \(os error \d+\)", states[self.node])
+        failed = re.fullmatch(rf"node {self.node} failed: (?:\S*/)?{self.node}/a[01]: [a-z]+ing: {reason} \(os error \d+\)", states[self.node])
         self.check(failed, f"a node that fails is told as {states[self.node]!r}")
         self.check(all(states[it].startswith(f"node {it} up ") for it in self.whole), f"of the whole nodes: {states}")
 
@@ -475,38 +472,43 @@ class Faulty:
         self.stop()
         self.keep()
 
-    # ---- what isn't there yet
+    # ---- folders that a start refuses
 
-    def missing_at_a_start(self):
-        self.starts_without(self.remove)
-
-    def damaged_at_a_start(self):
-        self.starts_without(self.damage)
-
-    def full_at_a_start(self):
-        self.starts_without(self.refuse_calls, "ENOSPC")
-
-    def read_only_at_a_start(self):
-        self.starts_without(self.refuse_calls, "EROFS")
-
-    def starts_without(self, harm, how=None):
-        """A shell over a folder with a fault serves by the others, and says what the node has. Nothing is made or written in its place."""
+    def at_a_start(self, fault):
+        """A shell over a folder with a fault is refused. Without its node it serves, and nothing is made or written there."""
+        how = AT_A_START[fault]
+        reason = DEVICES.get(how, "")
         self.keep()
-        harm()
-        before = {path: it for path, it in held(self.folder).items() if path.startswith(self.path)}
+        {"missing": self.remove, "damaged": self.damage}.get(fault, self.refuse_calls)()
+        before = self.held_there()
         self.open(how)
-        if not self.check(self.shell.ask(f"at {self.whole[0]}"), lambda: f"the shell ended with {self.shell.end()}"):
+        if self.check(self.shell.ask(f"at {self.whole[0]}") is None, "a start over such a folder isn't refused"):
+            self.end(reason)
+        self.open(how, without=True)
+        if not self.check(self.shell.ask(f"at {self.whole[0]}"), lambda: f"without the node the shell ended with {self.shell.end()}"):
             return
+        self.check(self.states()[self.node] == f"node {self.node} down", f"a node that is left out: {self.states()}")
         self.go_on()
-        self.is_told(DEVICES.get(how, ""))
-        self.end(DEVICES.get(how, ""))
-        left = {path: it for path, it in held(self.folder).items() if path.startswith(self.path)}
-        self.check(left == before, "a start without the folder changed it")
+        self.isnt_started()
+        self.is_told(reason)
+        self.go_on()
+        self.end(reason)
+        self.check(self.held_there() == before, "a start without the folder changed it")
         if how:
             self.heal()
         else:
             self.put_back()
         self.open_again("served")
+
+    def held_there(self):
+        return {path: it for path, it in held(self.folder).items() if path.startswith(self.path)}
+
+    def isnt_started(self):
+        answer = self.shell.ask(f"start {self.node}")
+        self.check(answer in (f"started {self.node}", f"error: node {self.node} has failed again: status says why"), f"a start was answered {answer!r}")
+        until = time.monotonic() + LIMIT
+        while self.states()[self.node].startswith(f"node {self.node} up ") and time.monotonic() < until:
+            time.sleep(0.02)
 
     def is_told(self, reason):
         """The node is down by a failure, and is said to be, with its folder or a file in it, and the reason."""
@@ -517,13 +519,13 @@ class Faulty:
 
     def removed_and_started(self):
         """A node whose folder was removed while it was stopped isn't started; with the folder back it is."""
-        self.isnt_started(self.remove)
+        self.isnt_started_after(self.remove)
 
     def damaged_and_started(self):
         """A node whose area was altered while it was stopped isn't started; with the folder back it is."""
-        self.isnt_started(self.damage)
+        self.isnt_started_after(self.damage)
 
-    def isnt_started(self, harm):
+    def isnt_started_after(self, harm):
         self.stop_and_keep()
         self.burst(self.whole[0], DURING, harm)
         answer = self.shell.ask(f"start {self.node}")
@@ -558,6 +560,8 @@ class Faulty:
         answer = self.shell.ask(f"snapshot {self.node}")
         self.check(answer.startswith("error: "), f"a snapshot was answered {answer!r}")
         self.is_told("No such file or directory")
+
+    # ---- what isn't there yet
 
     def removed_and_told_at_the_end(self):
         """A shell whose node wrote to a folder that is gone says so at its end."""

@@ -5,6 +5,7 @@
 
 What has to come is by docs/FORMATS.md and docs/decisions/program.md. Lines of help have at most 100 letters. On a terminal the line of a
 refusal stands behind its reason, and in a pipe or with --json before it. A value that is empty as none was given is told on a terminal alone.
+There a shell also says which nodes are left out.
 The completions for bash find files with blanks, and those behind `draw --tape`. The last line says how many held; the status is 1 where one didn't."""
 import argparse
 import os
@@ -86,6 +87,11 @@ def checks(rr, folder):
     yield "an empty value is told on a terminal, where it is set", shown.count(told) == 2, shown
     ran = in_pipes([rr, "shell", "--nodes", "1", "--dir", "piped"], b"claim a\n", folder)
     yield "an empty value isn't told in a pipe", *same(ran, (0, b"claimed\n", b""))
+    in_pipes([rr, "shell", "--nodes", "3", "--dir", "left"], b"claim a\n", folder)
+    _, shown = on_terminal([rr, "shell", "--dir", "left", "--without", "2"], folder, b"quit\n")
+    yield "a terminal says who is left out", b"of 3 nodes, without 2; you are client 0, and ask node 0;" in shown, shown
+    _, shown = on_terminal([rr, "shell", "--dir", "left", "--without", "0"], folder, b"quit\n")
+    yield "a terminal says whom to ask", b'without 0; you are client 0, and ask node 0, which is left out: say "at 1";' in shown, shown
     yield "files with blanks are completed", *within({"a b.tape", "plain.tape", "c d"}, completed(["rr", "sim", ""], folder))
     yield "folders with blanks are completed", *within({"c d", "--json"}, completed(["rr", "verify", ""], folder))
     yield "files are completed behind draw --tape", *within({"a b.tape", "--html"}, completed(["rr", "draw", "--tape", ""], folder))
