@@ -59,7 +59,8 @@ TOUR = [
     (
         "Folders that know each other",
         "A node whose folder is lost may have promised what it no longer knows. It isn't taken for a fresh one, nothing is written, and no folder "
-        "is made. With the folder back the cluster goes on.",
+        "is made. With the folder back the cluster goes on. With `--without 2` it goes on without the folder of node 2, which stays down until "
+        "the folder is back and `start 2` opens it.",
         [
             "printf 'claim a x\\nclaim b\\n' | rr shell --nodes 3 --dir kin --client 7; ls kin",
             "mv kin/0 lost; echo 'claim a thief' | rr shell --nodes 3 --dir kin --client 9; ls kin",
@@ -67,6 +68,7 @@ TOUR = [
             "mv lost kin/1/a0; echo 'look a' | rr shell --nodes 5 --dir kin; ls kin",
             "mv kin/1 aside; mv kin/2 kin/1; mv aside kin/2; echo 'look a' | rr shell --nodes 3 --dir kin",
             "mv kin/1 aside; mv kin/2 kin/1; mv aside kin/2; printf 'look a\\nclaim a thief\\n' | rr shell --nodes 3 --dir kin --client 9",
+            "mv kin/2 lost; printf 'claim c\\nstart 2\\nstatus\\n' | rr shell --dir kin --client 7 --without 2 | sed 's/ facts.*//'; mv lost kin/2",
         ],
     ),
     (
