@@ -2,7 +2,6 @@ mod asking;
 mod catching;
 mod failing;
 mod first_page;
-mod leaving;
 mod nodes;
 mod opening;
 mod snapshotting;
