@@ -316,6 +316,13 @@ impl<W: WindowName> Seat<W> {
         Ok(bindings)
     }
 
+    /// How many commands the longest list has that this seat has seen or learned.
+    pub fn count(&self) -> u64
+        ensures { result ≡ length self.now }
+    {
+        self.known.count()
+    }
+
     /// From now on this seat sees no less than the receipt's list. It waits for nobody and takes no memory.
     pub fn learn(&mut self, receipt: &Receipt<W>)
         ensures before { IsPrefix self.old self.new }
