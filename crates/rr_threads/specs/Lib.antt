@@ -16,3 +16,4 @@ pub mod Trips
 pub mod Unasked
 pub mod Ways
 pub mod Mails
+pub mod Paces

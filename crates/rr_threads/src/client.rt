@@ -3,9 +3,10 @@
 //! No contract knows what lies on a counter, under the node's lock or in an atomic. So when a node goes down, which snapshot is asked for,
 //! and whose promise and which reused numbers are told has no clause: `is_over`, `snapshot`, `promise`, `reused` and `serve` are read.
 
-ghost use Rattle.std.specs.Prelude.{◌≡◌, ◌⊎◌, ◌+◌, ◌<◌, ◌≤◌, None, Some, length, IfSome, IfOk, OnOk, OnErr, IfErr};
+ghost use Rattle.std.specs.Prelude.{◌≡◌, ◌⊎◌, ◌+◌, ◌<◌, ◌≤◌, true, None, Some, length, IfSome, IfOk, OnOk, OnErr, IfErr};
 ghost use mathlib.Core.List.{IsPrefix};
 ghost use Rattle.rr_types.specs.declared.refusal.Refusal.TheVariants.{NoGuard, OutOfMemory};
+ghost use Rattle.rr_types.specs.Limits.{instance_count};
 ghost use Rattle.rr_types.specs.Registry.{registry_of};
 ghost use Rattle.rr_model.specs.NodeState.{NodeState, decided_prefix};
 ghost use Rattle.rr_turn.specs.Asked.{Call};
@@ -26,13 +27,16 @@ use crate::summary::summary_of;
 use rr_text::{Answer, ScriptLine};
 use rr_turn::{Awaited, ClientEnds, Rung, Turnstile, await_receipt};
 use rr_types::{
-    Binding, Command, Name, NodeId, NodeSummary, Op, Promise, Refusal, Reply, RequestNo, Value,
-    made_of,
+    Binding, Command, INSTANCES, Name, NodeId, NodeSummary, Op, Promise, Refusal, Reply, RequestNo,
+    Value, made_of,
 };
 use rr_window::{Change, Receipt, Seat, Sight, Watch, WindowName};
 use std::alloc::Global;
 use std::marker::Model;
 use std::sync::Wait;
+
+/// A name that is looked at for what the look learns.
+const ANY: &[u8] = b"any";
 
 /// How many times a client looks for its receipt before it gives up: for some days.
 const POLLS: u32 = 10_000_000;
@@ -300,6 +304,58 @@ impl<'d, 'x, W: WindowName, T: Turnstile, R: Wait> Handle<'d, 'x, W, T, R> {
         ensures rests { self.new.rests ≤ self.old.rests + looks }
     {
         self.submit_within(looks, &command_to_itself(request, *name))
+    }
+
+    /// Waits until this client knows a full list, so all that can ever be decided, as `sync` waits. Answers whether it does. Behind a
+    /// full list no command is decided, so `sync` can't tell then. A node that lacks some of them asks the others at its ticks.
+    pub fn know_all(&mut self, looks: u32) -> bool
+        ensures known { result ≡ true → length self.new.known ≡ instance_count }
+        ensures all { length self.old.known ≡ instance_count → result ≡ true }
+        ensures later { IsPrefix self.old.known self.new.known }
+        ensures same { self.new.node ≡ self.old.node }
+        ensures rests { self.new.rests ≤ self.old.rests + looks }
+        ensures asked { self.new.wanted ≡ self.old.wanted }
+    {
+        let mut rest = Rest::new(FIRST, LONG);
+        let mut knows = self.knows_all();
+        for looked in 0..looks {
+            if knows || self.is_over() {
+                break;
+            }
+            self.rest_once(&mut rest);
+            knows = self.knows_all();
+        }
+        knows
+    }
+
+    // Waits a little for what the node publishes.
+    fn rest_once(&mut self, rest: &mut Rest)
+        ensures known { self.new.known ≡ self.old.known }
+        ensures same { self.new.node ≡ self.old.node }
+        ensures rests { self.new.rests ≤ self.old.rests + 1 }
+        ensures asked { self.new.wanted ≡ self.old.wanted }
+    {
+        rest.wait(self.rt, &self.counter.bell);
+        self.rests = self.rests.saturating_add(1);
+    }
+
+    // Whether this client knows a full list, once it has seen what is published.
+    fn knows_all(&mut self) -> bool
+        ensures known { result ≡ true → length self.new.known ≡ instance_count }
+        ensures all { length self.old.known ≡ instance_count → result ≡ true }
+        ensures later { IsPrefix self.old.known self.new.known }
+        ensures same { self.new.node ≡ self.old.node }
+        ensures rests { self.new.rests ≡ self.old.rests }
+        ensures asked { self.new.wanted ≡ self.old.wanted }
+    {
+        if self.seat.count() == u64::from(INSTANCES) {
+            return true;
+        }
+        // (a look at any name sees what is published; one that is given no guard sees nothing new)
+        if let Ok(name) = Name::new(ANY) {
+            let _ = self.seat.look(&name);
+        }
+        self.seat.count() == u64::from(INSTANCES)
     }
 
     /// What this node's list of decided commands says of a command.

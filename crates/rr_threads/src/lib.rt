@@ -66,6 +66,7 @@ mod flushing;
 mod lives;
 mod node_loop;
 mod node_run;
+mod pacing;
 mod publishing;
 mod ready;
 mod recorder;

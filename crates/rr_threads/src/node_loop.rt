@@ -7,6 +7,7 @@ ghost use Rattle.std.specs.Duration.{as_nanos};
 ghost use Rattle.rr_threads.specs.Mails.{HearsOwn};
 
 use crate::desk::Desk;
+use crate::pacing::keep_pace;
 use crate::shared::Shared;
 use crate::wires::{Mail, NodeEnds, Wires};
 use rr_turn::{Chase, Clockwork, Links, Standstill, Ticks, Turnstile, hear_kept, turn};
@@ -67,6 +68,9 @@ fn run_turns<W: WindowName, T: Turnstile, R: Wait + Clock>(
     for _ in rt.forever() {
         if desk.is_ending(shared) {
             break;
+        }
+        if clockwork.standstill.is_idle() {
+            keep_pace(&mut clockwork.standstill, shared.pace(desk.node));
         }
         turn(rt, order, node, chase, wires, &mut clockwork, BATCH, ROOM)?;
     }

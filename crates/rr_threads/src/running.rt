@@ -5,19 +5,21 @@
 
 ghost use Rattle.std.specs.Prelude.{◌≡◌};
 
+use crate::pacing::Rounds;
 use rr_turn::{Bell, Bells, Ending, Failure, Rung};
 use rr_types::{NodeId, Refusal};
 use std::alloc::Global;
 use std::sync::atomic::{AtomicBool, Ordering};
 use std::sync::{Mutex, Wait};
 
-/// A run: how it ends, a bell for the loop of each node, and what a loop holds that submits.
+/// A run: how it ends, a bell for the loop of each node, what a loop holds that submits, and in which rounds nodes are.
 #[derive(Drop)]
 pub struct Running {
     is_over: AtomicBool,
     ending: Mutex<Ending>,
     bells: Bells,
     order: Mutex<()>,
+    rounds: Rounds,
 }
 
 /// That a run was ended by a failure. Only `Running::fail` gives this.
@@ -36,12 +38,18 @@ impl Running {
             ending: Mutex::new(ending),
             bells,
             order: Mutex::new(()),
+            rounds: Rounds::new(alloc)?,
         })
     }
 
     /// What a node's loop holds while it submits, so that one submits after another.
     pub fn order(&self) -> &Mutex<()> {
         &self.order
+    }
+
+    /// In which rounds its nodes are.
+    pub fn rounds(&self) -> &Rounds {
+        &self.rounds
     }
 
     /// Whether it is over.
@@ -94,6 +102,7 @@ impl Running {
             ending,
             bells: _,
             order: _,
+            rounds: _,
         } = self;
         ending.into_inner().refusal()
     }

@@ -7,13 +7,14 @@ ghost use Rattle.std.specs.Option.{option_map_or};
 ghost use Rattle.rr_turn.specs.Asked.{Call};
 
 use crate::failing::{Breaker, Outage};
+use crate::pacing::{Pace, pace_of};
 use crate::publishing::Published;
 use crate::recorder::Recorder;
 use crate::running::Running;
 use crate::switches::{DOWN, Switches};
 use crate::wires::Mail;
 use rr_turn::{DownEnds, Next, stay_down};
-use rr_types::{NodeId, Nodes, Refusal};
+use rr_types::{NodeId, Nodes, Refusal, majority};
 use std::sync::Wait;
 use std::time::Duration;
 
@@ -57,6 +58,31 @@ impl<'x, T> Shared<'x, T> {
             None => None,
         };
         ends(start.moves, stands, self.running.is_over())
+    }
+
+    /// How a node stands to the others that are up.
+    pub fn pace(&self, node: NodeId) -> Pace {
+        let rounds = self.running.rounds();
+        let Some(own) = rounds.of(node) else {
+            return Pace::Along;
+        };
+        let mut others = [None; 7];
+        for index in 0..self.nodes.count() {
+            if let Some(other) = NodeId::new(self.nodes, index) {
+                if index != node.index() && self.is_up(other) {
+                    others[usize::from(index)] = rounds.of(other);
+                }
+            }
+        }
+        pace_of(own, &others, majority(self.nodes))
+    }
+
+    // Whether a node is up. Where nobody stops nodes, all are.
+    fn is_up(&self, node: NodeId) -> bool {
+        match self.switches {
+            Some(switches) => switches.is_up(node),
+            None => true,
+        }
     }
 
     /// By which a node or the run ends where the node fails.

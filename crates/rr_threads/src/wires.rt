@@ -213,10 +213,14 @@ impl<'x, W: WindowName, T: Turnstile, R: Wait + Clock> Links for Wires<'x, W, T,
     }
 
     fn send(&mut self, locked: &mut Locked) -> Result<Option<Sent>, Refusal> {
-        let Some(recorder) = self.scribe.recorder else {
-            return Ok(send(locked));
+        let sent = match self.scribe.recorder {
+            None => send(locked),
+            Some(recorder) => send_on(locked, &mut recorder.recording().lock(self.rt))?,
         };
-        send_on(locked, &mut recorder.recording().lock(self.rt))
+        if let Some(sent) = &sent {
+            self.running.rounds().note(sent.message());
+        }
+        Ok(sent)
     }
 
     fn put(&mut self, to: NodeId, sent: Sent) {

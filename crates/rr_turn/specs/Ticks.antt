@@ -1,5 +1,5 @@
 -- When a node ticks, and when one enters the next round that gets no further.
-use Rattle.std.specs.Prelude.{ℕ, ◌+◌, ◌-◌, ◌*◌, ◌/◌, min, max, Bool, true, false, not, ◌&&◌, ◌==◌, nat_le, if◌then◌else◌}
+use Rattle.std.specs.Prelude.{ℕ, ◌+◌, ◌-◌, ◌*◌, ◌/◌, min, max, Bool, true, false, not, ◌&&◌, ◌==◌, nat_le, nat_lt, if◌then◌else◌}
 use Rattle.rr_turn.specs.declared.standstill.Found.{Found}
 
 -- when a node ticked last by its clock, and how long after a tick the next is due, both in nanoseconds
@@ -61,3 +61,15 @@ standstill_after f s =
     else (if not (f.decided == s.decided) then still_from f (max first_wait (s.wait / 2))
     else (if not (f.facts == s.facts) then record s { facts = f.facts; ticks = 0; has_moved = true }
     else (if ends_wait s then waited s else record s { ticks = s.ticks + 1 })))
+
+-- its last tick found no more than the one before
+abbrev pub is_idle : Standstill → Bool
+is_idle s = nat_lt 0 s.ticks
+
+-- the standstill of a node that is behind others: the next tick is the last one of its wait
+abbrev pub hurried : Standstill → Standstill
+hurried s = record s { ticks = s.wait - 1 }
+
+-- the standstill of a node that waits for others: its wait begins anew
+abbrev pub held : Standstill → Standstill
+held s = record s { ticks = 0 }

@@ -24,6 +24,9 @@
 //!         if desk.is_ending(shared) {
 //!             break;
 //!         }
+//!         if clockwork.standstill.is_idle() {
+//!             keep_pace(&mut clockwork.standstill, shared.pace(desk.node));
+//!         }
 //!         turn(rt, order, node, chase, wires, &mut clockwork, BATCH, ROOM)?;
 //!     }
 //!     Ok(())

@@ -1,7 +1,7 @@
 //! When a node that gets no further enters the next round.
 
 ghost use Rattle.std.specs.Prelude.{◌≡◌, ◌≤◌, true};
-ghost use Rattle.rr_turn.specs.Ticks.{first_wait, still_from, is_advance_due, standstill_after};
+ghost use Rattle.rr_turn.specs.Ticks.{first_wait, still_from, is_advance_due, standstill_after, is_idle, hurried, held};
 
 use std::marker::Model;
 
@@ -109,5 +109,26 @@ impl Standstill {
             has_moved: false,
         };
         is_due
+    }
+
+    /// Whether its last tick found nothing new.
+    pub fn is_idle(&self) -> bool
+        ensures { result ≡ is_idle self.now }
+    {
+        self.ticks > 0
+    }
+
+    /// The next tick is the last one of this wait: the node is behind others, who wait for it.
+    pub fn hurry(&mut self)
+        ensures { self.new ≡ hurried self.old }
+    {
+        self.ticks = self.wait - 1;
+    }
+
+    /// This wait begins anew: others are behind the node, and it waits for them.
+    pub fn hold(&mut self)
+        ensures { self.new ≡ held self.old }
+    {
+        self.ticks = 0;
     }
 }
