@@ -1,7 +1,7 @@
 -- What a verdict guards: no node that has been formatted is taken for a fresh one.
 use Rattle.std.proofs.Common.{◌≡◌, ◌⊎◌, inl, inr, ◌||◌, ℕ, zero, suc, ◌+◌, ◌*◌, ◌%◌, ◌^◌, ◌<◌, ◌≤◌, ◌&&◌, Bool, true, false, cond, eqb, ltb, List, [], ◌∷◌, ◌++◌, length, map, is_none, Option, None, Some, refl, ap, subst, ◌∙◌, sym, arith}
 use Rattle.std.specs.List.{list_all}
-use Rattle.std.proofs.lemmas.Bool.{and_parts, eqb-true, ltb-true}
+use Rattle.std.proofs.lemmas.Bool.{and_parts, eq-eqb, eqb-true, ltb-false, ltb-true}
 use Rattle.std.proofs.Math.Nat.{zero-div}
 use Rattle.rr_types.specs.Nodes.{has_member, with_member}
 use Rattle.rr_folders.specs.declared.cluster.Identity.{Identity}
@@ -13,13 +13,15 @@ use Rattle.rr_folders.specs.declared.cluster.Course.{Course}
 use Rattle.rr_folders.specs.declared.front.Content.{Content}
 use Rattle.rr_folders.specs.declared.front.Content.TheVariants as contents
 use Rattle.rr_folders.specs.declared.judging.Found.{Found}
+use Rattle.rr_folders.specs.declared.judging.Past.{Past}
+use Rattle.rr_folders.specs.declared.judging.Owner.{Owner}
 use Rattle.rr_folders.specs.declared.judging.Fault.{Fault}
-use Rattle.rr_folders.specs.declared.judging.Fault.TheVariants.{OtherNode, OtherNodes, OtherCluster, Older, Outdated, LeftOut, Unfounded}
+use Rattle.rr_folders.specs.declared.judging.Fault.TheVariants.{OtherNode, OtherNodes, OtherCluster, Older, Outdated, Replaced, LeftOut, Unfounded}
 use Rattle.rr_folders.specs.declared.judging.Verdict.{Verdict}
 use Rattle.rr_folders.specs.declared.judging.Verdict.TheVariants.{Open, Begin, TakeOn, Refused}
-use Rattle.rr_folders.specs.Clusters.{same_identity, same_digest, reaches, is_behind}
+use Rattle.rr_folders.specs.Clusters.{same_identity, same_digest, reaches, is_behind, times_in}
 use Rattle.rr_folders.specs.Returns.{HomeState}
-use Rattle.rr_folders.specs.Judging.{mark_fault, owner_fault, loss_fault, unmarked_fault, ◌or_else◌, course_of, lapse_of, forgetful_fault, lag_fault, outdated_fault, memory_fault, disk_fault, fault_of, AreLeftOut, at_or, first_left_out, count_there, leave_fault, left_out_with, first_there, first_fault, refused_or, is_blank, is_unmarked, is_fresh, is_fresh_at, first_identity, identity_or, verdict_by_nodes, verdict_by_all, verdict_of, Each, HasDisk, IsAsFar, IsAsNoted, IsNotBehind, KeepsItsMark, KeepsItsDisk, IsFresh, IsServed, Guards, MayReturn}
+use Rattle.rr_folders.specs.Judging.{mark_fault, owner_fault, loss_fault, stale_fault, past_fault, ◌or_else◌, course_of, lapse_of, forgetful_fault, lag_fault, noted_fault, outdated_fault, ◌if_also◌, older_fault, own_past, past_of, memory_fault, disk_fault, fault_of, AreLeftOut, at_or, first_left_out, count_there, leave_fault, left_out_with, first_there, first_fault, refused_or, is_blank, is_unmarked, is_fresh, is_fresh_at, first_identity, identity_or, verdict_by_nodes, verdict_by_all, verdict_of, Each, HasDisk, IsMarked, IsAsFar, IsAsNoted, IsNotBehind, KeepsItsMark, KeepsItsDisk, IsFresh, IsServed, Guards, MayReturn}
 
 -- ---- one folder
 
@@ -47,14 +49,24 @@ same_is i j h =
     let make : ℕ → ℕ → Identity = λ a b. record { first = a; second = b } in
     ap (λ (a : ℕ). make a i.second) (eqb-true i.first j.first both.0) ∙ ap (λ (b : ℕ). make j.first b) (eqb-true i.second j.second both.1)
 
-own_mark : (i : Identity) (p : ℕ) (m : Option Mark) → mark_fault i p m ≡ None → unmarked_fault m ≡ None
-    → (far : Option Course) × (m ≡ Some (record { identity = i; node = p; course = far }))
-own_mark i p None own marked = absurd cc
-own_mark i p (Some m) own marked =
+-- no fault, where one was told if a test held
+held_back : (b : Bool) (y : Option Fault) (x : Fault) → cond b (Some x) y ≡ None → (b ≡ false) × (y ≡ None)
+held_back true y x e = absurd cc
+held_back false y x e = (refl, e)
+
+own_mark : (i : Identity) (past : Past) (p : ℕ) (m : Option Mark) → mark_fault i p m ≡ None → past_fault (Some past) p m ≡ None
+    → (far : Option Course) × (times : ℕ) × (times_in past.replaced p ≤ times) × (m ≡ Some (record { identity = i; node = p; course = far; replaced = times }))
+own_mark i past p None own marked = absurd cc
+own_mark i past p (Some m) own marked =
     let same = passed (same_identity m.identity i) (cond (eqb m.node p) None (Some (OtherNode m.node))) OtherCluster own in
     let node = passed (eqb m.node p) None (OtherNode m.node) same.1 in
-    let make : Identity → ℕ → Option Mark = λ j q. Some (record { identity = j; node = q; course = m.course }) in
-    (m.course, ap (λ (j : Identity). make j m.node) (same_is m.identity i same.0) ∙ ap (λ (q : ℕ). make i q) (eqb-true m.node p node.0))
+    let fresh = held_back (ltb m.replaced (times_in past.replaced p)) None Replaced marked in
+    let make : Identity → ℕ → Option Mark = λ j q. Some (record { identity = j; node = q; course = m.course; replaced = m.replaced }) in (
+      m.course,
+      m.replaced,
+      ltb-false m.replaced (times_in past.replaced p) fresh.0,
+      ap (λ (j : Identity). make j m.node) (same_is m.identity i same.0) ∙ ap (λ (q : ℕ). make i q) (eqb-true m.node p node.0),
+    )
 
 digest_is : (d e : Digest) → same_digest d e ≡ true → d ≡ e
 digest_is d e h =
@@ -102,26 +114,50 @@ as_noted None far none = tt
 as_noted (Some n) None none = absurd cc
 as_noted (Some n) (Some c) none = untold (is_behind c.to n.from) none
 
+-- a mark that has nothing against it, of which one was noted
+not_before : (n m : Mark) → noted_fault n m ≡ None → (n.replaced ≤ m.replaced) × (m.replaced ≡ n.replaced → IsAsNoted n.course m.course)
+not_before n m none =
+    let later = held_back (ltb m.replaced n.replaced) (cond (eqb m.replaced n.replaced) (lag_fault n.course m.course) None) Outdated none in (
+      ltb-false m.replaced n.replaced later.0,
+      λ same. as_noted n.course m.course (subst (λ (b : Bool). cond b (lag_fault n.course m.course) None ≡ None) (eq-eqb m.replaced n.replaced same) later.1),
+    )
+
 not_behind : (noted mark : Option Mark) → outdated_fault noted mark ≡ None → IsNotBehind noted mark
 not_behind None mark none = tt
 not_behind (Some n) None none = tt
-not_behind (Some n) (Some m) none = λ same. as_noted n.course m.course (subst (λ (b : Bool). cond b (lag_fault n.course m.course) None ≡ None) same none)
+not_behind (Some n) (Some m) none = λ same. not_before n m (subst (λ (b : Bool). cond b (noted_fault n m) None ≡ None) same none)
+
+-- one of two faults isn't there
+not_both : (x y : Option Fault) → (x if_also y) ≡ None → (x ≡ None) ⊎ (y ≡ None)
+not_both None y e = inl refl
+not_both (Some x) None e = inr refl
+not_both (Some x) (Some y) e = absurd cc
+
+one_is_as_noted : (f : Found) → (outdated_fault f.noted f.mark ≡ None) ⊎ (forgetful_fault (course_of f.noted) f.by_note ≡ None)
+    → IsNotBehind f.noted f.mark ⊎ IsAsFar (course_of f.noted) f.by_note
+one_is_as_noted f (inl none) = inl (not_behind f.noted f.mark none)
+one_is_as_noted f (inr none) = inr (as_far (course_of f.noted) f.by_note none)
 
 remembers : (f : Found) → memory_fault f ≡ None → KeepsItsMark f
 remembers f none =
-    let both = neither (forgetful_fault (course_of f.mark) f.active) (outdated_fault f.noted f.mark) none in
-    (as_far (course_of f.mark) f.active both.0, not_behind f.noted f.mark both.1)
+    let both = neither (forgetful_fault (course_of f.mark) f.active) (older_fault f) none in
+    let one = not_both (outdated_fault f.noted f.mark) (forgetful_fault (course_of f.noted) f.by_note) both.1 in
+    (as_far (course_of f.mark) f.active both.0, one_is_as_noted f one)
 
-keeps : (c : Cluster) (p : ℕ) (f : Found) → fault_of c.identity c.nodes (Some c.formatted) p f ≡ None → KeepsItsDisk c p f
-keeps c p f none formatted =
-    let outer = neither (mark_fault c.identity p f.mark or_else owner_fault c.nodes p f.content) (disk_fault (Some c.formatted) p f) none in
-    let own = neither (mark_fault c.identity p f.mark) (owner_fault c.nodes p f.content) outer.0 in
-    let all : Option Fault = (loss_fault f.content or_else unmarked_fault f.mark) or_else memory_fault f in
-    let asked : cond (has_member c.formatted p) all None ≡ None = outer.1 in
+keeps_by : (i : Identity) (n : ℕ) (past : Past) (p : ℕ) (f : Found) → fault_of i n (Some past) p f ≡ None → has_member past.formatted p ≡ true
+    → HasDisk n p f × IsMarked i past.replaced p f × KeepsItsMark f
+keeps_by i n past p f none formatted =
+    let outer = neither (mark_fault i p f.mark or_else owner_fault n p f.content) (disk_fault (Some past) p f) none in
+    let own = neither (mark_fault i p f.mark) (owner_fault n p f.content) outer.0 in
+    let all : Option Fault = (loss_fault f.content or_else past_fault (Some past) p f.mark) or_else memory_fault f in
+    let asked : cond (has_member past.formatted p) all None ≡ None = outer.1 in
     let lost : all ≡ None = subst (λ (b : Bool). cond b all None ≡ None) formatted asked in
-    let apart = neither (loss_fault f.content or_else unmarked_fault f.mark) (memory_fault f) lost in
-    let kept = neither (loss_fault f.content) (unmarked_fault f.mark) apart.0 in
-    (own_disk c.nodes p f.content own.1 kept.0, own_mark c.identity p f.mark own.0 kept.1, remembers f apart.1)
+    let apart = neither (loss_fault f.content or_else past_fault (Some past) p f.mark) (memory_fault f) lost in
+    let kept = neither (loss_fault f.content) (past_fault (Some past) p f.mark) apart.0 in
+    (own_disk n p f.content own.1 kept.0, own_mark i past p f.mark own.0 kept.1, remembers f apart.1)
+
+keeps : (c : Cluster) (p : ℕ) (f : Found) → fault_of c.identity c.nodes (Some (past_of c)) p f ≡ None → KeepsItsDisk c p f
+keeps c p f none formatted = keeps_by c.identity c.nodes (past_of c) p f none formatted
 
 has : (i : Identity) (n p : ℕ) (f : Found) → fault_of i n None p f ≡ None → HasDisk n p f × KeepsItsMark f
 has i n p f none =
@@ -135,7 +171,7 @@ none_here : (p : ℕ) (x : Option Fault) (y : Option (ℕ × Fault)) → at_or p
 none_here p None y e = (refl, e)
 none_here p (Some x) y e = absurd cc
 
-each_of : (P : ℕ → Found → Type 0) (i : Identity) (n : ℕ) (formatted : Option ℕ) → ((p : ℕ) (f : Found) → fault_of i n formatted p f ≡ None → P p f)
+each_of : (P : ℕ → Found → Type 0) (i : Identity) (n : ℕ) (formatted : Option Past) → ((p : ℕ) (f : Found) → fault_of i n formatted p f ≡ None → P p f)
     → (p : ℕ) (fs : List (Option Found)) → first_fault i n formatted p fs ≡ None → Each P p fs
 each_of P i n formatted one p [] none = tt
 each_of P i n formatted one p (None ∷ fs) none = each_of P i n formatted one (p + 1) fs none
@@ -187,17 +223,17 @@ served n formatted fs (Some q) some long is e =
 -- ---- the verdict
 
 guards_open : (n : ℕ) (c : Cluster) (fs : List (Option Found)) (x : Option (ℕ × Fault)) → c.nodes ≡ n → IsServed n c.formatted fs
-    → first_fault c.identity n (Some c.formatted) 0 fs ≡ x → Guards n (Some c) fs (refused_or x (Open c))
+    → first_fault c.identity n (Some (past_of c)) 0 fs ≡ x → Guards n (Some c) fs (refused_or x (Open c))
 guards_open n c fs (Some x) same serves is = tt
 guards_open n c fs None same serves is =
-    let none : first_fault c.identity c.nodes (Some c.formatted) 0 fs ≡ None = subst (λ (k : ℕ). first_fault c.identity k (Some c.formatted) 0 fs ≡ None) (sym same) is in
-    (refl, same, serves, each_of (KeepsItsDisk c) c.identity c.nodes (Some c.formatted) (keeps c) 0 fs none)
+    let none : first_fault c.identity c.nodes (Some (past_of c)) 0 fs ≡ None = subst (λ (k : ℕ). first_fault c.identity k (Some (past_of c)) 0 fs ≡ None) (sym same) is in
+    (refl, same, serves, each_of (KeepsItsDisk c) c.identity c.nodes (Some (past_of c)) (keeps c) 0 fs none)
 
 guards_left : (n : ℕ) (c : Cluster) (fs : List (Option Found)) (x : Option (ℕ × Fault)) → 1 ≤ n → length fs ≡ n → c.nodes ≡ n
     → left_out_with (first_left_out 0 fs) (leave_fault n c.formatted (count_there fs)) ≡ x → Guards n (Some c) fs (refused_or x (verdict_by_nodes n c fs))
 guards_left n c fs (Some x) some long same is = tt
 guards_left n c fs None some long same is =
-    guards_open n c fs (first_fault c.identity n (Some c.formatted) 0 fs) same (served n c.formatted fs (first_left_out 0 fs) some long refl is) refl
+    guards_open n c fs (first_fault c.identity n (Some (past_of c)) 0 fs) same (served n c.formatted fs (first_left_out 0 fs) some long refl is) refl
 
 guards_file : (n : ℕ) (c : Cluster) (fs : List (Option Found)) (b : Bool) → 1 ≤ n → length fs ≡ n → eqb c.nodes n ≡ b
     → Guards n (Some c) fs (cond b (refused_or (left_out_with (first_left_out 0 fs) (leave_fault n c.formatted (count_there fs))) (verdict_by_nodes n c fs)) (Refused (first_there 0 fs) (OtherNodes c.nodes)))
@@ -246,12 +282,12 @@ in_own (suc (suc (suc (suc (suc (suc zero)))))) h = refl
 in_own (suc (suc (suc (suc (suc (suc (suc p))))))) h = absurd (omega (arith, h))
 
 -- a folder in which nothing is wrong, though its node has been formatted, and whose disk is as far as the node left it
-pub return_guards : (i : Identity) (n p set : ℕ) (f : Found) (left : Option Course) (reached : Option Reached) → p < 7 → set ≡ with_member 0 p
-    → fault_of i n (Some set) p f ≡ None → forgetful_fault left reached ≡ None → MayReturn i n p f left reached
-return_guards i n p set f left reached known own none far =
-    let c : Cluster = record { identity = i; nodes = n; formatted = set } in
-    let member : has_member set p ≡ true = subst (λ (s : ℕ). has_member s p ≡ true) (sym own) (in_own p known) in
-    let kept = keeps c p f none member in
+pub return_guards : (o : Owner) (past : Past) (f : Found) (left : Option Course) (reached : Option Reached) → o.node < 7 → past ≡ own_past o
+    → fault_of o.identity o.nodes (Some past) o.node f ≡ None → forgetful_fault left reached ≡ None → MayReturn o f left reached
+return_guards o past f left reached known own none far =
+    let free : fault_of o.identity o.nodes (Some (own_past o)) o.node f ≡ None =
+    subst (λ (x : Past). fault_of o.identity o.nodes (Some x) o.node f ≡ None) own none in
+    let kept = keeps_by o.identity o.nodes (own_past o) o.node f free (in_own o.node known) in
     record { disk = kept.0; mark = kept.1; keeps = kept.2; far = as_far left reached far }
 
 -- ---- lists to which a place is added

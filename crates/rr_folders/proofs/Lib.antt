@@ -2,6 +2,9 @@ mod NumberLaws
 mod ReservingLaws
 pub mod ClusterReading
 pub mod Guarding
+pub mod RenewedFolders
+pub mod RenewalLemmas
+pub mod SiftLemmas
 pub mod AgreementLemmas
 pub mod OneList
 pub mod CrashedFolders

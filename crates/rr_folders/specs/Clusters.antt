@@ -1,5 +1,5 @@
 -- Clusters, and whose a folder is.
-use Rattle.std.specs.Prelude.{◌<◌, ◌≤◌, ◌^◌, ◌==◌, ◌&&◌, ◌||◌, nat_lt, Bool, IfSome}
+use Rattle.std.specs.Prelude.{ℕ, ◌<◌, ◌≤◌, ◌*◌, ◌/◌, ◌%◌, ◌^◌, ◌==◌, ◌&&◌, ◌||◌, nat_lt, Bool, IfSome}
 use Rattle.rr_types.specs.Limits.{max_nodes}
 use Rattle.rr_folders.specs.declared.cluster.Identity.{Identity}
 use Rattle.rr_folders.specs.declared.cluster.Cluster.{Cluster}
@@ -17,12 +17,17 @@ pub record IsIdentity (i : Identity) : Type 0 where
 abbrev pub same_identity : Identity → Identity → Bool
 same_identity i j = (i.first == j.first) && (i.second == j.second)
 
--- a cluster of 1 to 7 nodes, some of which have been formatted
+-- how often node p was replaced, by the sum of 256 ^ q for each time that a node q was
+abbrev pub times_in : ℕ → ℕ → ℕ
+times_in replaced p = (replaced / 2 ^ (8 * p)) % 256
+
+-- a cluster of 1 to 7 nodes, some of which have been formatted, and some replaced
 pub record IsCluster (c : Cluster) : Type 0 where
   pub identity : IsIdentity c.identity
   pub some : 1 ≤ c.nodes
   pub few : c.nodes ≤ max_nodes
   pub below : c.formatted < 2 ^ c.nodes
+  pub replaced : c.replaced < 2 ^ 64
 
 -- four numbers of 64 bits
 pub record IsDigest (d : Digest) : Type 0 where
@@ -41,11 +46,12 @@ pub record IsCourse (c : Course) : Type 0 where
   pub from : IsReached c.from
   pub to : IsReached c.to
 
--- a node of a cluster, and how far it came
+-- a node of a cluster, how far it came, and how often it had been replaced
 pub record IsMark (m : Mark) : Type 0 where
   pub identity : IsIdentity m.identity
   pub node : m.node < max_nodes
   pub course : IfSome m.course IsCourse
+  pub replaced : m.replaced < 2 ^ 64
 
 -- whether two digests are the same
 abbrev pub same_digest : Digest → Digest → Bool

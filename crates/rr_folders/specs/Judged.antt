@@ -19,6 +19,10 @@ refused_by (Open c) = None
 refused_by Begin = None
 refused_by (TakeOn i) = None
 
--- n folders are judged, none of them left out, by a verdict that refuses none
+-- n folders are judged, but those of some nodes, which are left out, by a verdict that refuses none
+abbrev pub MayStartWithout : ℕ → ℕ → Type 0
+MayStartWithout n without = (v : Verdict) × IsJudged n without v × (refused_by v ≡ None)
+
+-- the same, none of them left out
 abbrev pub MayStart : ℕ → Type 0
-MayStart n = (v : Verdict) × IsJudged n 0 v × (refused_by v ≡ None)
+MayStart n = MayStartWithout n 0

@@ -1,5 +1,5 @@
 -- Whether the folders of a cluster may be opened, by what was found in each, from node 0 on.
-use Rattle.std.specs.Prelude.{◌≡◌, ◌⊎◌, ◌||◌, nat_lt, ℕ, suc, ◌+◌, ◌*◌, ◌^◌, ◌<◌, ◌==◌, ◌&&◌, if◌then◌else◌, is_none, Bool, true, false, List, [], ◌∷◌, Option, None, Some}
+use Rattle.std.specs.Prelude.{◌≡◌, ◌⊎◌, ◌||◌, nat_lt, ℕ, suc, ◌+◌, ◌*◌, ◌^◌, ◌<◌, ◌≤◌, ◌==◌, ◌&&◌, if◌then◌else◌, is_none, Bool, true, false, List, [], ◌∷◌, Option, None, Some}
 use Rattle.std.specs.List.{list_all}
 use Rattle.rr_types.specs.Nodes.{has_member, with_member}
 use Rattle.rr_folders.specs.declared.cluster.Identity.{Identity}
@@ -10,11 +10,13 @@ use Rattle.rr_folders.specs.declared.cluster.Course.{Course}
 use Rattle.rr_folders.specs.declared.front.Content.{Content}
 use Rattle.rr_folders.specs.declared.front.Content.TheVariants as contents
 use Rattle.rr_folders.specs.declared.judging.Found.{Found}
+use Rattle.rr_folders.specs.declared.judging.Past.{Past}
+use Rattle.rr_folders.specs.declared.judging.Owner.{Owner}
 use Rattle.rr_folders.specs.declared.judging.Fault.{Fault}
-use Rattle.rr_folders.specs.declared.judging.Fault.TheVariants.{Missing, Blank, Cut, OtherNode, OtherNodes, OtherCluster, Unmarked, Older, Shorter, Altered, Outdated, LeftOut, Unfounded}
+use Rattle.rr_folders.specs.declared.judging.Fault.TheVariants.{Missing, Blank, Cut, OtherNode, OtherNodes, OtherCluster, Unmarked, Older, Shorter, Altered, Outdated, Replaced, LeftOut, Unfounded}
 use Rattle.rr_folders.specs.declared.judging.Verdict.{Verdict}
 use Rattle.rr_folders.specs.declared.judging.Verdict.TheVariants.{Open, Begin, TakeOn, Refused}
-use Rattle.rr_folders.specs.Clusters.{same_identity, reaches, is_behind}
+use Rattle.rr_folders.specs.Clusters.{same_identity, reaches, is_behind, times_in}
 
 -- ---- one folder
 
@@ -35,10 +37,17 @@ loss_fault contents.Blank = Some Blank
 loss_fault contents.Cut = Some Cut
 loss_fault (contents.Holds q m) = None
 
--- that nobody has marked it, where each node of the cluster has marked its own
-abbrev pub unmarked_fault : Option Mark → Option Fault
-unmarked_fault None = Some Unmarked
-unmarked_fault (Some m) = None
+-- that a node was replaced since its folder was marked, by the sum for all nodes
+abbrev pub stale_fault : ℕ → ℕ → Option Mark → Option Fault
+stale_fault replaced p None = None
+stale_fault replaced p (Some m) = if nat_lt m.replaced (times_in replaced p) then Some Replaced else None
+
+-- that nobody has marked it, where each node of the cluster has marked its own; or that the node was replaced since. Without a cluster's
+-- file, neither is known
+abbrev pub past_fault : Option Past → ℕ → Option Mark → Option Fault
+past_fault None p mark = None
+past_fault (Some past) p None = Some Unmarked
+past_fault (Some past) p (Some m) = stale_fault past.replaced p (Some m)
 
 -- the first of two faults
 infixl 10 ◌or_else◌
@@ -73,34 +82,56 @@ lag_fault None far = None
 lag_fault (Some n) None = Some Outdated
 lag_fault (Some n) (Some c) = if is_behind c.to n.from then Some Outdated else None
 
+-- what a mark has against it of which another one was noted: it is of a folder from before a replacement, or not as far. One from behind a
+-- replacement is of another disk, and further
+abbrev pub noted_fault : Mark → Mark → Option Fault
+noted_fault n m =
+    if nat_lt m.replaced n.replaced then Some Outdated else (if m.replaced == n.replaced then lag_fault n.course m.course else None)
+
 -- that a folder is older than what was noted of it: its mark is behind the one that was noted of the same cluster
 abbrev pub outdated_fault : Option Mark → Option Mark → Option Fault
 outdated_fault None mark = None
 outdated_fault (Some n) None = None
-outdated_fault (Some n) (Some m) = if same_identity n.identity m.identity then lag_fault n.course m.course else None
+outdated_fault (Some n) (Some m) = if same_identity n.identity m.identity then noted_fault n m else None
+
+-- a fault, where there is another one as well
+infixl 11 ◌if_also◌
+abbrev pub ◌if_also◌ : Option Fault → Option Fault → Option Fault
+None if_also y = None
+(Some x) if_also None = None
+(Some x) if_also (Some y) = Some x
+
+-- that a folder is older than what was noted of it: its mark is behind that, and its active area isn't as far either
+abbrev pub older_fault : Found → Option Fault
+older_fault f = outdated_fault f.noted f.mark if_also forgetful_fault (course_of f.noted) f.by_note
 
 -- that a node forgot something, by its folder's mark or by what was noted of that
 abbrev pub memory_fault : Found → Option Fault
-memory_fault f = forgetful_fault (course_of f.mark) f.active or_else outdated_fault f.noted f.mark
+memory_fault f = forgetful_fault (course_of f.mark) f.active or_else older_fault f
 
 -- what is lost of a node: nothing while it is being formatted. Without a cluster's file, each node counts as formatted
-abbrev pub disk_fault : Option ℕ → ℕ → Found → Option Fault
+abbrev pub disk_fault : Option Past → ℕ → Found → Option Fault
 disk_fault None p f = loss_fault f.content or_else memory_fault f
-disk_fault (Some formatted) p f = if has_member formatted p then ((loss_fault f.content or_else unmarked_fault f.mark) or_else memory_fault f) else None
+disk_fault (Some past) p f =
+    if has_member past.formatted p then ((loss_fault f.content or_else past_fault (Some past) p f.mark) or_else memory_fault f) else None
 
 -- what is wrong with the folder of node p of n
-abbrev pub fault_of : Identity → ℕ → Option ℕ → ℕ → Found → Option Fault
-fault_of i n formatted p f = (mark_fault i p f.mark or_else owner_fault n p f.content) or_else disk_fault formatted p f
+abbrev pub fault_of : Identity → ℕ → Option Past → ℕ → Found → Option Fault
+fault_of i n past p f = (mark_fault i p f.mark or_else owner_fault n p f.content) or_else disk_fault past p f
 
 -- that a disk isn't as far as its node left it: the folder is an older copy
 abbrev pub as_outdated : Option Fault → Option Fault
 as_outdated None = None
 as_outdated (Some x) = Some Outdated
 
--- what is wrong with the folder of node p of n that starts again: what it would be at an opening, the node being formatted; or its active
+-- the past of a node that has been formatted, where nodes were replaced so often
+abbrev pub own_past : Owner → Past
+own_past o = record { formatted = with_member 0 o.node; replaced = o.replaced }
+
+-- what is wrong with the folder of a node that starts again: what it would be at an opening, the node being formatted; or its active
 -- area, which reaches this far, isn't as far as the node left it
-abbrev pub return_fault : Identity → ℕ → ℕ → Found → Option Course → Option Reached → Option Fault
-return_fault i n p f left reached = fault_of i n (Some (with_member 0 p)) p f or_else as_outdated (forgetful_fault left reached)
+abbrev pub return_fault : Owner → Found → Option Course → Option Reached → Option Fault
+return_fault o f left reached = fault_of o.identity o.nodes (Some (own_past o)) o.node f or_else as_outdated (forgetful_fault left reached)
 
 -- ---- all folders. At the place of a node whose folder is left out stands nothing
 
@@ -138,9 +169,9 @@ left_out_with (Some p) None = None
 left_out_with (Some p) (Some x) = Some (p, x)
 
 -- what is wrong with the folder at the place of node p of n. One that is left out isn't looked at
-abbrev pub fault_at : Identity → ℕ → Option ℕ → ℕ → Option Found → Option Fault
-fault_at i n formatted p None = None
-fault_at i n formatted p (Some f) = fault_of i n formatted p f
+abbrev pub fault_at : Identity → ℕ → Option Past → ℕ → Option Found → Option Fault
+fault_at i n past p None = None
+fault_at i n past p (Some f) = fault_of i n past p f
 
 -- this fault of node p's folder; where there is none, another folder's
 abbrev pub at_or : ℕ → Option Fault → Option (ℕ × Fault) → Option (ℕ × Fault)
@@ -148,9 +179,9 @@ at_or p (Some x) other = Some (p, x)
 at_or p None other = other
 
 -- the first folder that has a fault, from node p on
-abbrev pub first_fault : Identity → ℕ → Option ℕ → ℕ → List (Option Found) → Option (ℕ × Fault)
-first_fault i n formatted p [] = None
-first_fault i n formatted p (f ∷ fs) = at_or p (fault_at i n formatted p f) (first_fault i n formatted (p + 1) fs)
+abbrev pub first_fault : Identity → ℕ → Option Past → ℕ → List (Option Found) → Option (ℕ × Fault)
+first_fault i n past p [] = None
+first_fault i n past p (f ∷ fs) = at_or p (fault_at i n past p f) (first_fault i n past (p + 1) fs)
 
 -- a refusal for that folder; where there is none, this verdict
 abbrev pub refused_or : Option (ℕ × Fault) → Verdict → Verdict
@@ -191,9 +222,13 @@ first_identity (Some f ∷ fs) = marked_or f.mark (first_identity fs)
 
 -- ---- the verdict
 
+-- the past of a cluster's nodes
+abbrev pub past_of : Cluster → Past
+past_of c = record { formatted = c.formatted; replaced = c.replaced }
+
 -- by the folders of a cluster of n nodes, with its file
 abbrev pub verdict_by_nodes : ℕ → Cluster → List (Option Found) → Verdict
-verdict_by_nodes n c found = refused_or (first_fault c.identity n (Some c.formatted) 0 found) (Open c)
+verdict_by_nodes n c found = refused_or (first_fault c.identity n (Some (past_of c)) 0 found) (Open c)
 
 -- by the cluster's file, where so many nodes are asked for: folders are left out only where each node has been formatted, and a majority is
 -- there
@@ -234,9 +269,10 @@ Each P p (Some f ∷ fs) = P p f × Each P (p + 1) fs
 abbrev pub HasDisk : ℕ → ℕ → Found → Type 0
 HasDisk n p f = f.content ≡ contents.Holds p n
 
--- a folder that is marked as node p's of a cluster
-abbrev pub IsMarked : Identity → ℕ → Found → Type 0
-IsMarked i p f = (far : Option Course) × (f.mark ≡ Some (record { identity = i; node = p; course = far }))
+-- a folder that is marked as node p's of a cluster, no less often replaced than the sum for all nodes says
+abbrev pub IsMarked : Identity → ℕ → ℕ → Found → Type 0
+IsMarked i replaced p f =
+    (far : Option Course) × (times : ℕ) × (times_in replaced p ≤ times) × (f.mark ≡ Some (record { identity = i; node = p; course = far; replaced = times }))
 
 -- an active area came as far as it is to
 abbrev pub IsAsFar : Option Course → Option Reached → Type 0
@@ -249,19 +285,21 @@ IsAsNoted None far = Unit {0}
 IsAsNoted (Some n) None = ⊥
 IsAsNoted (Some n) (Some c) = is_behind c.to n.from ≡ false
 
--- a mark isn't behind the one that was noted of the same cluster
+-- a mark isn't behind the one that was noted of the same cluster: it isn't from before a replacement, and as far where it is of one disk
 abbrev pub IsNotBehind : Option Mark → Option Mark → Type 0
 IsNotBehind None mark = Unit {0}
 IsNotBehind (Some n) None = Unit {0}
-IsNotBehind (Some n) (Some m) = same_identity n.identity m.identity ≡ true → IsAsNoted n.course m.course
+IsNotBehind (Some n) (Some m) =
+    same_identity n.identity m.identity ≡ true → (n.replaced ≤ m.replaced) × (m.replaced ≡ n.replaced → IsAsNoted n.course m.course)
 
--- a folder whose active area came as far as its mark says, and whose mark came as far as was noted
+-- a folder whose active area came as far as its mark says, and of which the mark or the active area came as far as was noted
 abbrev pub KeepsItsMark : Found → Type 0
-KeepsItsMark f = IsAsFar (course_of f.mark) f.active × IsNotBehind f.noted f.mark
+KeepsItsMark f = IsAsFar (course_of f.mark) f.active × (IsNotBehind f.noted f.mark ⊎ IsAsFar (course_of f.noted) f.by_note)
 
--- a node that has been formatted has its disk, its folder bears its mark, and the disk came as far as that says
+-- a node that has been formatted has its disk, its folder bears its mark, of no time before the node was replaced last, and the disk came as
+-- far as that says
 abbrev pub KeepsItsDisk : Cluster → ℕ → Found → Type 0
-KeepsItsDisk c p f = has_member c.formatted p ≡ true → HasDisk c.nodes p f × IsMarked c.identity p f × KeepsItsMark f
+KeepsItsDisk c p f = has_member c.formatted p ≡ true → HasDisk c.nodes p f × IsMarked c.identity c.replaced p f × KeepsItsMark f
 
 -- a folder without a disk and without a mark: no node was ever in it
 abbrev pub IsFresh : ℕ → Found → Type 0
@@ -286,10 +324,10 @@ Guards n file found (Refused p x) = Unit {0}
 
 -- ---- a node that starts again
 
--- a node may come back to a folder: it has the node's disk and its mark, the disk is as far as the mark says, the mark as far as was noted,
--- and the active area, which reaches this far, is as far as the node left it
-pub record MayReturn (i : Identity) (n p : ℕ) (f : Found) (left : Option Course) (reached : Option Reached) : Type 0 where
-  pub disk : HasDisk n p f
-  pub mark : IsMarked i p f
+-- a node may come back to a folder: it has the node's disk and its mark, the disk is as far as the mark says, the mark or the disk as far as
+-- was noted, and the active area, which reaches this far, is as far as the node left it
+pub record MayReturn (o : Owner) (f : Found) (left : Option Course) (reached : Option Reached) : Type 0 where
+  pub disk : HasDisk o.nodes o.node f
+  pub mark : IsMarked o.identity o.replaced o.node f
   pub keeps : KeepsItsMark f
   pub far : IsAsFar left reached

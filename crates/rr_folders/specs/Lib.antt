@@ -1,4 +1,5 @@
 pub mod Judged
+pub mod Sifts
 pub mod Marks
 pub mod NumberCalls
 pub mod Requests
@@ -14,3 +15,4 @@ pub mod Exports
 pub mod Texts
 pub mod Surveys
 pub mod Returns
+pub mod Renewal

@@ -3,15 +3,25 @@ use Rattle.std.specs.Prelude.{◌≡◌, ◌⊎◌, ℕ, Option, None, Some, Res
 use Rattle.rr_types.specs.declared.refusal.Refusal.{Refusal}
 use Rattle.rr_types.specs.declared.refusal.Refusal.TheVariants.{Device, OutOfMemory}
 use Rattle.rr_types.specs.Counts.{counted}
-use Rattle.rr_folders.specs.declared.cluster.Identity.{Identity}
 use Rattle.rr_folders.specs.declared.cluster.Reached.{Reached}
 use Rattle.rr_folders.specs.declared.cluster.Course.{Course}
+use Rattle.rr_folders.specs.declared.cluster.Mark.{Mark}
 use Rattle.rr_folders.specs.declared.judging.Found.{Found}
-use Rattle.rr_folders.specs.Judging.{MayReturn}
+use Rattle.rr_folders.specs.declared.judging.Owner.{Owner}
+use Rattle.rr_folders.specs.Judging.{IsAsNoted, MayReturn}
 
--- node p of n came back to a folder, by what was found in it
-abbrev pub IsReturn : Identity → ℕ → ℕ → Option Course → Type 0
-IsReturn i n p left = (f : Found) × (reached : Option Reached) × MayReturn i n p f left reached
+-- a node came back to a folder, by what was found in it
+abbrev pub IsReturn : Owner → Option Course → Type 0
+IsReturn o left = (f : Found) × (reached : Option Reached) × MayReturn o f left reached
+
+-- how far a disk came, by what was known before and by what is known since: the same, or not behind that
+abbrev pub IsKept : Option Course → Option Course → Type 0
+IsKept before since = (since ≡ before) ⊎ IsAsNoted before since
+
+-- the disk of a node, which had been replaced so often, was let go: how far it came isn't forgotten, and is what is to be noted of the node
+abbrev pub WasLeft : Owner → ℕ → Option Course → Option Course → Option Mark → Type 0
+WasLeft o times before since last =
+    IsKept before since × (last ≡ Some (record { identity = o.identity; node = o.node; course = since; replaced = times }))
 
 -- the home of a disk, the disk while it is open, and how many device calls were made and failed
 pub record HomeState (D H : Type 0) : Type 0 where

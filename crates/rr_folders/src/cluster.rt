@@ -1,9 +1,12 @@
 //! Clusters, and whose a folder is.
 
-ghost use Rattle.std.specs.Prelude.{◌≡◌};
-ghost use Rattle.rr_folders.specs.Clusters.{same_identity, same_digest, reaches, is_behind};
+ghost use Rattle.std.specs.Prelude.{◌≡◌, ◌+◌, ◌*◌, ◌^◌, ◌<◌, IfSome};
+ghost use Rattle.rr_folders.specs.Clusters.{same_identity, same_digest, reaches, is_behind, times_in};
 
 use rr_types::{NodeId, NodeSet, Nodes};
+
+/// How often a node can be replaced.
+const MOST_TIMES: u64 = 255;
 
 /// Which cluster it is: two numbers that were drawn once, so that two clusters hardly ever have the same.
 #[derive(Clone, Copy, Debug)]
@@ -32,6 +35,25 @@ pub struct Cluster {
     pub nodes: Nodes,
     /// The nodes whose disks have been formatted, so that they may have promised something. The others are being formatted.
     pub formatted: NodeSet,
+    /// How often nodes were replaced: the sum of 256^P for each time that a node P was. It is 0 where none was.
+    pub replaced: u64,
+}
+
+/// How often a node was replaced, by such a sum.
+pub fn times_in(replaced: u64, node: NodeId) -> u64
+    ensures { result ≡ times_in replaced node }
+{
+    (replaced >> (8 * node.index())) % 256
+}
+
+/// The sum once a node was replaced once more. None: it was 255 times, and can't be again.
+pub fn once_more(replaced: u64, node: NodeId) -> Option<u64>
+    ensures { IfSome result (λ r. (times_in replaced node < 255) × (r ≡ replaced + 2 ^ (8 * node))) }
+{
+    if times_in(replaced, node) >= MOST_TIMES {
+        return None;
+    }
+    replaced.checked_add(1 << (8 * node.index()))
 }
 
 /// A digest of bytes, by SHA-256: four times 64 bits.
@@ -95,7 +117,7 @@ pub struct Course {
     pub to: Reached,
 }
 
-/// What the file in a node's folder says: whose folder it is, and how far its disk came.
+/// What the file in a node's folder says: whose folder it is, how far its disk came, and how often the node had been replaced before.
 #[derive(Clone, Copy, Debug)]
 pub struct Mark {
     /// The cluster.
@@ -104,4 +126,6 @@ pub struct Mark {
     pub node: NodeId,
     /// How far the node's active area came at least. None: it isn't said.
     pub course: Option<Course>,
+    /// How often the node had been replaced when the folder was made.
+    pub replaced: u64,
 }

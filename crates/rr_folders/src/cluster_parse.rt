@@ -5,7 +5,7 @@ ghost use Rattle.rr_folders.specs.declared.cluster.Cluster.{Cluster as ClusterOf
 ghost use Rattle.rr_folders.specs.declared.cluster.Mark.{Mark as MarkOf};
 ghost use Rattle.rr_folders.specs.Clusters.{IsCluster, IsMark};
 ghost use Rattle.rr_folders.specs.ClusterTexts.{cluster_text, mark_text};
-ghost use Rattle.rr_folders.specs.Reading.{line_at, identity_at, head_at, count_at, node_at, cluster_at, number_then_at, digest_at, reached_at, plain_mark_at, far_mark_at, mark_at};
+ghost use Rattle.rr_folders.specs.Reading.{line_at, identity_at, head_at, count_at, node_at, cluster_at, number_then_at, digest_at, reached_at, replaced_at, plain_mark_at, far_mark_at, mark_at};
 
 use crate::cluster::{Cluster, Course, Digest, Identity, Mark, Reached};
 use rr_text::text_read::{cut, number, set};
@@ -60,11 +60,24 @@ fn node(word: &[u8]) -> Option<NodeId>
     }
 }
 
+// How often nodes were replaced, and the text behind that.
+fn replaced(text: &[u8]) -> Option<(u64, &[u8])>
+    ensures { MatchOption result (replaced_at text.now ≡ None) (λ x. replaced_at text.now ≡ Some (x.0, x.1.now)) }
+{
+    let (word, rest) = cut(text, b' ')?;
+    if word != b"replaced".as_slice() {
+        return Some((0, text));
+    }
+    let (sum, rest) = number_then(rest)?;
+    if sum == 0 { None } else { Some((sum, rest)) }
+}
+
 // The cluster of a cluster's file.
 fn cluster(bytes: &[u8]) -> Option<Cluster>
     ensures { result ≡ cluster_at bytes.now }
 {
-    let (identity, rest) = head(b"cluster-1", line(bytes)?)?;
+    let (replaced, rest) = replaced(line(bytes)?)?;
+    let (identity, rest) = head(b"cluster-1", rest)?;
     let (word, rest) = cut(rest, b' ')?;
     let nodes = count(word)?;
     let formatted = set(nodes, rest)?;
@@ -72,6 +85,7 @@ fn cluster(bytes: &[u8]) -> Option<Cluster>
         identity,
         nodes,
         formatted,
+        replaced,
     })
 }
 
@@ -120,8 +134,8 @@ fn reached(text: &[u8]) -> Option<(Reached, &[u8])>
 }
 
 // The mark of a line that doesn't say how far it came.
-fn plain_mark(text: &[u8]) -> Option<Mark>
-    ensures { result ≡ plain_mark_at text.now }
+fn plain_mark(replaced: u64, text: &[u8]) -> Option<Mark>
+    ensures { result ≡ plain_mark_at replaced text.now }
 {
     let (identity, rest) = head(b"node-1", text)?;
     let node = node(rest)?;
@@ -129,12 +143,13 @@ fn plain_mark(text: &[u8]) -> Option<Mark>
         identity,
         node,
         course: None,
+        replaced,
     })
 }
 
 // The mark of a line that does.
-fn far_mark(text: &[u8]) -> Option<Mark>
-    ensures { result ≡ far_mark_at text.now }
+fn far_mark(replaced: u64, text: &[u8]) -> Option<Mark>
+    ensures { result ≡ far_mark_at replaced text.now }
 {
     let (identity, rest) = head(b"node-2", text)?;
     let (from, rest) = reached(rest)?;
@@ -144,6 +159,7 @@ fn far_mark(text: &[u8]) -> Option<Mark>
         identity,
         node,
         course: Some(Course { from, to }),
+        replaced,
     })
 }
 
@@ -151,10 +167,10 @@ fn far_mark(text: &[u8]) -> Option<Mark>
 fn mark(bytes: &[u8]) -> Option<Mark>
     ensures { result ≡ mark_at bytes.now }
 {
-    let text = line(bytes)?;
-    match plain_mark(text) {
+    let (replaced, text) = replaced(line(bytes)?)?;
+    match plain_mark(replaced, text) {
         Some(mark) => Some(mark),
-        None => far_mark(text),
+        None => far_mark(replaced, text),
     }
 }
 

@@ -1,11 +1,23 @@
 //! Printing the file of a cluster, and that of a node's folder.
 
 ghost use Rattle.std.specs.Prelude.{◌≡◌, ◌++◌, ◌∷◌, decimal, OnOk, IfOk};
-ghost use Rattle.rr_folders.specs.ClusterTexts.{cluster_text, digest_words, reached_words, far_words, mark_text};
+ghost use Rattle.rr_folders.specs.ClusterTexts.{cluster_text, digest_words, reached_words, far_words, replaced_front, mark_text};
 
 use crate::cluster::{Cluster, Course, Digest, Identity, Mark, Reached};
 use rr_text::text_word::{push_byte, push_bytes, push_number_word, push_set};
 use std::alloc::{AllocError, Global};
+
+// Appends how often nodes were replaced; nothing where none was.
+fn push_replaced(out: &mut Vec<u8>, replaced: u64) -> Result<(), AllocError>
+    ensures ok { OnOk result (out.new.items ≡ out.old.items ++ replaced_front replaced) }
+{
+    if replaced == 0 {
+        return Ok(());
+    }
+    push_bytes(out, b"replaced")?;
+    push_number_word(out, replaced)?;
+    push_byte(out, b' ')
+}
 
 // Appends what both files begin with: what it is, and the cluster's identity.
 fn push_head(out: &mut Vec<u8>, word: &[u8], identity: Identity) -> Result<(), AllocError>
@@ -53,6 +65,7 @@ impl Cluster {
         ensures ok { IfOk result (λ v. v.items ≡ cluster_text self.now) }
     {
         let mut out = Vec::new(alloc);
+        push_replaced(&mut out, self.replaced)?;
         push_head(&mut out, b"cluster-1", self.identity)?;
         push_number_word(&mut out, u64::from(self.nodes.count()))?;
         push_set(&mut out, self.formatted)?;
@@ -70,6 +83,7 @@ impl Mark {
         ensures ok { IfOk result (λ v. v.items ≡ mark_text self.now) }
     {
         let mut out = Vec::new(alloc);
+        push_replaced(&mut out, self.replaced)?;
         match self.course {
             None => push_head(&mut out, b"node-1", self.identity)?,
             Some(course) => push_far_head(&mut out, self.identity, course)?,

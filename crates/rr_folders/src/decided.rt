@@ -4,6 +4,7 @@ ghost use Rattle.std.specs.Prelude.{◌≡◌, [], ◌∷◌, ◌++◌, length, 
 ghost use Rattle.rr_types.specs.Promises.{decided_from};
 ghost use Rattle.rr_text.specs.ReportTexts.{line, decided_lines};
 ghost use Rattle.rr_folders.specs.Agreement.{decided_of, longest_decided};
+ghost use Rattle.rr_folders.specs.Renewal.{entries_of};
 
 use crate::verify_folder::Reading;
 use rr_text::text_report::push_decided_list;
@@ -45,9 +46,10 @@ fn decided_commands(alloc: Global, entries: &[Kept]) -> Result<Vec<Command>, All
     Ok(commands)
 }
 
-// The entries of a folder; none where it holds no facts.
-fn entries_of(reading: &Reading) -> &[Kept]
-    ensures { decided_from 0 result.now ≡ decided_of reading.now }
+/// The entries of a folder; none where it holds no facts.
+pub(crate) fn entries_of(reading: &Reading) -> &[Kept]
+    ensures entries { result.now ≡ entries_of reading.now }
+    ensures decided { decided_from 0 result.now ≡ decided_of reading.now }
 {
     match reading {
         Reading::Facts(folder) => folder.promise.entries(),

@@ -5,7 +5,7 @@ ghost use Rattle.rr_types.specs.declared.refusal.Refusal.TheVariants.{Device, Ou
 ghost use Rattle.rr_types.specs.Nodes.{has_member};
 ghost use Rattle.rr_folders.specs.Judging.{AreLeftOut};
 ghost use Rattle.rr_folders.specs.Judged.{IsJudged};
-ghost use Rattle.rr_folders.specs.Surveys.{IsPrepared, MayBeOpened};
+ghost use Rattle.rr_folders.specs.Surveys.{IsGoingOn, IsPrepared, MayBeOpened, begins_by};
 
 use crate::closed::{Closed, done};
 use crate::cluster::{Cluster, Mark};
@@ -13,31 +13,28 @@ use crate::folder_home::FolderHome;
 use crate::forming::{are_formatted, begin, conclude, open_homes, take_on, tidy};
 use crate::front::Content;
 use crate::home::HomeDisk;
-use crate::judging::{Found, Verdict, judge};
+use crate::judging::{Fault, Found, Verdict, judge};
 use crate::lock::{Lockable, Locks};
 use crate::mark_file::{FolderMark, MarkWriter};
 use crate::marked::MarkedDisk;
 use crate::noted::{note_all, noted_in, noted_of};
+use crate::opening::{NodeFiles, open_files};
 use crate::plain::see_requests;
-use crate::reason::{Reason, Reasons, ToldFile, shared};
-use crate::seen::{Seen, cluster_in, is_there, look_at, look_over};
+use crate::reason::Reasons;
+use crate::seen::{Seen, cluster_in, is_there, look_at, look_over, with_note};
 use crate::tip::Tip;
-use rr_disk::{Area, FileDisk, OpenedFile, make_folder};
+use rr_disk::make_folder;
 use rr_types::{NodeId, NodeSet, Nodes, Refusal};
-use std::alloc::Global;
+use std::alloc::AllocFailed;
 use std::fs;
 use std::fs::OpenFile;
 use std::io::{ErrorKind, Read, Seek, Write};
 use std::marker::Model;
 use std::os::unix::fs::FileExt;
 use std::rt::Files;
-use std::sync::Arc;
 
 /// A disk of the two files in a node's folder, whose mark is the file `node` there.
 pub type NodeDisk<'x, F, R> = MarkedDisk<NodeFiles<F>, FolderMark<'x, R>>;
-
-/// The two files in a node's folder. Why a call on them failed is noted.
-pub type NodeFiles<F> = FileDisk<ToldFile<OpenedFile<F>>>;
 
 /// The same at home: while it isn't open, as that of a node that is left out, its calls fail. `reopen` opens it again.
 pub type NodeHome<'x, F, R> = HomeDisk<NodeDisk<'x, F, R>, FolderHome<'x, F, R>>;
@@ -89,11 +86,29 @@ impl<F> Survey<F> {
         })
     }
 
+    /// Whether a new cluster begins in the folders, if they are entered.
+    pub fn begins(&self) -> bool
+        ensures { result ≡ begins_by self.now.verdict }
+    {
+        matches!(self.verdict, Verdict::Begin)
+    }
+
     /// The nodes that are left out: their folders are neither locked nor looked at.
     pub fn without(&self) -> NodeSet
         ensures { result ≡ self.now.without }
     {
         self.without
+    }
+
+    /// The cluster that goes on, by what was found, where this node is left out.
+    pub(crate) fn cluster_without(&self, node: NodeId) -> Result<Cluster, Closed>
+        ensures { IsGoingOn node self.now.verdict result }
+    {
+        match self.verdict {
+            Verdict::Open(cluster) => Ok(cluster),
+            Verdict::Refused(first, fault) => Err(Closed::Refused(first, fault)),
+            Verdict::Begin | Verdict::TakeOn(_) => Err(Closed::Refused(node, Fault::Unfounded)),
+        }
     }
 
     // The locks alone.
@@ -184,8 +199,8 @@ fn look_in_node<
     if is_there(rt, path.as_str())? {
         locks.add(rt, path.as_str())?;
     }
-    let (mut seen, tip) = look_at(rt, locks, path.as_str())?;
-    seen.found.noted = noted;
+    let (seen, tip) = look_at(rt, locks, path.as_str())?;
+    let seen = with_note(rt, path.as_str(), seen, noted)?;
     Ok((Some(seen), tip))
 }
 
@@ -259,12 +274,86 @@ pub fn survey_folders<
     looked
 }
 
+/// Why folders aren't judged: a call failed in the folder of this node, or elsewhere.
+#[derive(Drop)]
+pub(crate) struct Unjudged {
+    pub(crate) node: Option<NodeId>,
+    pub(crate) why: Closed,
+}
+
+impl From<Closed> for Unjudged {
+    fn from(why: Closed) -> Unjudged {
+        Unjudged { node: None, why }
+    }
+}
+
+impl<T: Drop> From<AllocFailed<T>> for Unjudged {
+    fn from(_error: AllocFailed<T>) -> Unjudged {
+        Unjudged {
+            node: None,
+            why: Closed::OutOfMemory,
+        }
+    }
+}
+
+// What is found of a node's folder, unless it is left out.
+fn find_in_node<R: Files + AllocGlobal>(
+    rt: &R,
+    dir: &str,
+    node: NodeId,
+    without: NodeSet,
+    noted: Option<Mark>,
+) -> Result<Option<Found>, Closed>
+    ensures { IfOk result (λ found. has_member without node ≡ is_none found) }
+{
+    let is_left_out = without.contains(node);
+    if is_left_out {
+        return Ok(None);
+    }
+    let index = node.index();
+    let path = format!(in rt.alloc(); "{dir}/{index}")?;
+    let (look, _) = look_over(rt, path.as_str())?;
+    let look = with_note(rt, path.as_str(), look, noted)?;
+    Ok(Some(look.found))
+}
+
+/// What would be done with the folders of a cluster in the folder DIR, but those of the nodes that are left out. Nothing is locked, made or written.
+///
+/// # Errors
+/// `Failed`, with the node whose folder it is, if it is one's; `OutOfMemory`.
+#[tactic(auto, using(crate::proofs::Guarding::left_out_pushed))]
+pub(crate) fn judge_without<R: Files + AllocGlobal>(
+    rt: &R,
+    nodes: Nodes,
+    dir: &str,
+    without: NodeSet,
+) -> Result<Verdict, Unjudged>
+    ensures { IfOk result (IsJudged nodes without) }
+{
+    let mut found = Vec::new(rt.alloc());
+    let noted = noted_in(rt, dir)?;
+    for index in 0..nodes.count() {
+        let Some(node) = NodeId::new(nodes, index) else {
+            unreachable!()
+        };
+        let noted = noted_of(noted.as_slice(), index);
+        match find_in_node(rt, dir, node, without, noted) {
+            Ok(look) => found.push(look)?,
+            Err(why) => {
+                let node = Some(node);
+                return Err(Unjudged { node, why });
+            }
+        }
+    }
+    let cluster = cluster_in(rt, dir)?;
+    Ok(judge(nodes, cluster.as_ref(), found.as_slice()))
+}
+
 /// What would be done with the folders of a cluster in the folder DIR, none of them left out. Nothing is locked, made or written, so another program may change
 /// them meanwhile.
 ///
 /// # Errors
 /// `Failed`, `OutOfMemory`.
-#[tactic(auto, using(crate::proofs::Guarding::none_left_out))]
 pub fn judge_folders<R: Files + AllocGlobal>(
     rt: &R,
     nodes: Nodes,
@@ -272,35 +361,10 @@ pub fn judge_folders<R: Files + AllocGlobal>(
 ) -> Result<Verdict, Closed>
     ensures { IfOk result (IsJudged nodes 0) }
 {
-    let mut found = Vec::new(rt.alloc());
-    let noted = noted_in(rt, dir)?;
-    for node in 0..nodes.count() {
-        let path = format!(in rt.alloc(); "{dir}/{node}")?;
-        let (mut look, _) = look_over(rt, path.as_str())?;
-        look.found.noted = noted_of(noted.as_slice(), node);
-        found.push(Some(look.found))?;
+    match judge_without(rt, nodes, dir, NodeSet::empty()) {
+        Ok(verdict) => Ok(verdict),
+        Err(Unjudged { node: _, why }) => Err(why),
     }
-    let cluster = cluster_in(rt, dir)?;
-    Ok(judge(nodes, cluster.as_ref(), found.as_slice()))
-}
-
-/// Opens the files of the disk in a folder, as `FileDisk::open` does. Why a call on them failed is noted.
-pub(crate) fn open_files<
-    F: Read + Write + Seek + FileExt + OpenFile + Drop,
-    R: Files<File = F> + AllocGlobal,
->(
-    rt: &R,
-    folder: &str,
-    make: bool,
-    reason: Option<Arc<Reason, Global>>,
-) -> Result<NodeFiles<F>, Refusal>
-    ensures cause { IfErr result (λ e. (e ≡ OutOfMemory) ⊎ (e ≡ Device)) }
-{
-    let (first, second) = FileDisk::open(rt, folder, make)?.into_files();
-    let other = shared(&reason)?;
-    let first = ToldFile::new(first, Area::First, reason);
-    let second = ToldFile::new(second, Area::Second, other);
-    FileDisk::over(first, second)
 }
 
 // The disk in a folder that has a mark. What is written there goes on in the mark. None: it has none.
@@ -313,11 +377,10 @@ fn open_marked<
     let Some(mark) = seen.found.mark else {
         return Ok(None);
     };
-    let keeper = FolderMark::new(rt.alloc(), rt, folder, mark.identity, mark.node, None)?;
-    match open_files(rt, folder, false, None) {
-        Ok(disk) => Ok(Some(MarkedDisk::new(disk, keeper, mark.course, known))),
-        Err(refusal) => Err(Closed::Unopened(mark.node, refusal)),
-    }
+    let (node, course) = (mark.node, mark.course);
+    let keeper = FolderMark::new(rt.alloc(), rt, folder, mark, None)?;
+    let disk = open_files(rt, folder, node, false, None)?;
+    Ok(Some(MarkedDisk::new(disk, keeper, course, known)))
 }
 
 impl<F: Read + Write + Seek + FileExt + OpenFile + Drop> Locks<F> {

@@ -6,15 +6,17 @@ ghost use Rattle.rr_types.specs.Nodes.{has_member};
 ghost use Rattle.rr_folders.specs.Judging.{AreLeftOut};
 
 use crate::closed::{Closed, done, failed};
-use crate::cluster::{Cluster, Course, Identity, Mark};
-use crate::folder::{NodeDisk, NodeFiles, NodeHome, Survey, open_files, remove_made};
+use crate::cluster::{Cluster, Course, Digest, Identity, Mark, Reached, once_more, times_in};
+use crate::folder::{NodeDisk, NodeHome, Survey, remove_made};
 use crate::folder_home::FolderHome;
 use crate::front::AreaFront;
 use crate::home::HomeDisk;
+use crate::judging::{Found, Owner};
 use crate::lock::{Lockable, Locks};
 use crate::mark_file::{FolderMark, MarkWriter};
 use crate::marked::MarkedDisk;
 use crate::noted::Noter;
+use crate::opening::{NodeFiles, open_files, unopened};
 use crate::plain::make_fresh;
 use crate::reason::{Reason, Reasons, shared};
 use crate::returning::{Site, folder_id};
@@ -22,7 +24,7 @@ use crate::seen::{Seen, course_of, is_there};
 use crate::tip::Tip;
 use rr_disk::make_folder;
 use rr_journal::Journal;
-use rr_types::{NodeId, NodeSet, Nodes, Refusal};
+use rr_types::{NodeId, NodeSet, Nodes, Refusal, made_of};
 use std::alloc::Global;
 use std::fs;
 use std::fs::{OpenFile, OpenOptions};
@@ -82,8 +84,8 @@ pub(crate) fn put_in_place<R: Files + AllocGlobal>(
     sync_folder(rt, dir)
 }
 
-// Makes the names in a folder last.
-fn sync_folder<R: Files + AllocGlobal>(rt: &R, dir: &str) -> Result<(), Closed> {
+/// Makes the names in a folder last.
+pub(crate) fn sync_folder<R: Files + AllocGlobal>(rt: &R, dir: &str) -> Result<(), Closed> {
     let folder = done(rt, dir, "opening the folder", fs::open(rt, dir))?;
     done(rt, dir, "syncing the folder", folder.sync_all())
 }
@@ -93,31 +95,44 @@ fn write_mark<R: Files + AllocGlobal>(
     rt: &R,
     dir: &str,
     node: NodeId,
-    identity: Identity,
+    cluster: &Cluster,
     seen: &Seen,
 ) -> Result<(), Closed> {
     if let Some(mark) = seen.found.mark {
-        if mark.identity.is(identity) && mark.node == node {
+        if mark.identity.is(cluster.identity) && mark.node == node {
             return Ok(());
         }
     }
     let index = node.index();
     let folder = format!(in rt.alloc(); "{dir}/{index}")?;
-    let path = format!(in rt.alloc(); "{dir}/{index}/node")?;
-    let fresh = format!(in rt.alloc(); "{dir}/{index}/node.new")?;
-    let course = None;
-    let text = Mark {
-        identity,
-        node,
-        course,
-    }
-    .text(rt.alloc())?;
-    write_fresh(rt, fresh.as_str(), text.as_slice())?;
-    put_in_place(rt, folder.as_str(), fresh.as_str(), path.as_str())
+    put_mark(rt, folder.as_str(), &first_mark(cluster, node))
 }
 
-// Writes the cluster's file.
-fn write_cluster<R: Files + AllocGlobal>(
+/// What the mark of a node's folder says first.
+pub(crate) fn first_mark(cluster: &Cluster, node: NodeId) -> Mark {
+    Mark {
+        identity: cluster.identity,
+        node,
+        course: None,
+        replaced: times_in(cluster.replaced, node),
+    }
+}
+
+/// Puts a mark in a folder.
+pub(crate) fn put_mark<R: Files + AllocGlobal>(
+    rt: &R,
+    folder: &str,
+    mark: &Mark,
+) -> Result<(), Closed> {
+    let path = format!(in rt.alloc(); "{folder}/node")?;
+    let fresh = format!(in rt.alloc(); "{folder}/node.new")?;
+    let text = mark.text(rt.alloc())?;
+    write_fresh(rt, fresh.as_str(), text.as_slice())?;
+    put_in_place(rt, folder, fresh.as_str(), path.as_str())
+}
+
+/// Writes the cluster's file.
+pub(crate) fn write_cluster<R: Files + AllocGlobal>(
     rt: &R,
     dir: &str,
     cluster: &Cluster,
@@ -127,21 +142,6 @@ fn write_cluster<R: Files + AllocGlobal>(
     let text = cluster.text(rt.alloc())?;
     write_fresh(rt, fresh.as_str(), text.as_slice())?;
     put_in_place(rt, dir, fresh.as_str(), path.as_str())
-}
-
-/// What a failed write or opening of a disk in a folder comes from, as far as the system tells it when it is tried again.
-pub(crate) fn unopened<R: Files + AllocGlobal>(
-    rt: &R,
-    folder: &str,
-    node: NodeId,
-    refusal: Refusal,
-) -> Closed {
-    if refusal == Refusal::Device {
-        if let Err(closed) = try_folder(rt, folder) {
-            return closed;
-        }
-    }
-    Closed::Unopened(node, refusal)
 }
 
 /// Opens the files of a disk in a folder, and writes and syncs a file beside them, which is taken away: so a program that was
@@ -194,12 +194,13 @@ fn formatted<F: Read + Write + Seek + FileExt + OpenFile + Drop, R: Files<File =
     nodes: Nodes,
     node: NodeId,
     disk: NodeFiles<F>,
+    reason: &Option<Arc<Reason, Global>>,
 ) -> Result<NodeFiles<F>, Closed>
     requires { node < nodes }
 {
     match Journal::open(rt.alloc(), nodes, node, disk) {
         Ok((journal, _)) => Ok(journal.into_disk()),
-        Err((refusal, _)) => Err(unopened(rt, folder, node, refusal)),
+        Err((refusal, _)) => Err(unopened(rt, folder, node, refusal, reason)),
     }
 }
 
@@ -210,7 +211,7 @@ fn form_folder<
 >(
     rt: &R,
     dir: &str,
-    identity: Identity,
+    cluster: &Cluster,
     node: NodeId,
     seen: &Seen,
     locks: &mut Locks<F>,
@@ -226,20 +227,24 @@ fn form_folder<
         )?;
         locks.add(rt, folder.as_str())?;
     }
-    write_mark(rt, dir, node, identity, seen)
+    write_mark(rt, dir, node, cluster, seen)
 }
 
-// How far a node's mark says that its disk came, and what is known of that.
-fn course_in<F>(survey: &mut Survey<F>, index: u8) -> (Option<Course>, Option<Tip>) {
-    let course = match survey.seen.get(usize::from(index)) {
-        Some(Some(seen)) => course_of(seen.found.mark),
-        _ => None,
-    };
-    let known = match survey.known.get_mut(usize::from(index)) {
-        Some(known) => known.take(),
-        None => None,
-    };
-    (course, known)
+// The mark with which a node's folder goes on: the one that it has, or else its first one.
+fn mark_of<F>(survey: &Survey<F>, cluster: &Cluster, node: NodeId) -> Mark {
+    made_of!(Course, Reached, Digest, Identity);
+    match survey.seen.get(usize::from(node.index())) {
+        Some(Some(seen)) => match seen.found.mark {
+            Some(mark) => mark,
+            None => first_mark(cluster, node),
+        },
+        _ => first_mark(cluster, node),
+    }
+}
+
+// What is known of how far a node's disk came.
+fn known_of<F>(survey: &mut Survey<F>, index: u8) -> Option<Tip> {
+    survey.known.get_mut(usize::from(index))?.take()
 }
 
 // Opens the disk in the folder of a node. One that hasn't been formatted is.
@@ -252,39 +257,31 @@ fn open_disk<
     nodes: Nodes,
     dir: &str,
     cluster: &Cluster,
-    node: NodeId,
+    mark: Mark,
     survey: &mut Survey<F>,
     reason: Option<Arc<Reason, Global>>,
 ) -> Result<NodeDisk<'x, F, R>, Closed>
-    requires { node < nodes }
+    requires { mark.node < nodes }
 {
+    let (node, course) = (mark.node, mark.course);
     let index = node.index();
     let folder = format!(in rt.alloc(); "{dir}/{index}")?;
     let is_formatted = cluster.formatted.contains(node);
     if !is_formatted {
         if let Some(Some(seen)) = survey.seen.get(usize::from(index)) {
             let seen = *seen;
-            form_folder(rt, dir, cluster.identity, node, &seen, &mut survey.locks)?;
+            form_folder(rt, dir, cluster, node, &seen, &mut survey.locks)?;
         }
     }
-    let keeper = FolderMark::new(
-        rt.alloc(),
-        rt,
-        folder.as_str(),
-        cluster.identity,
-        node,
-        shared(&reason)?,
-    )?;
-    match open_files(rt, folder.as_str(), true, reason) {
-        Ok(disk) if is_formatted => {
-            let (course, known) = course_in(survey, index);
-            Ok(MarkedDisk::new(disk, keeper, course, known))
-        }
-        Ok(disk) => {
-            let disk = formatted(rt, folder.as_str(), nodes, node, disk)?;
-            Ok(MarkedDisk::new(disk, keeper, None, None))
-        }
-        Err(refusal) => Err(unopened(rt, folder.as_str(), node, refusal)),
+    let keeper = FolderMark::new(rt.alloc(), rt, folder.as_str(), mark, shared(&reason)?)?;
+    let noted = shared(&reason)?;
+    let disk = open_files(rt, folder.as_str(), node, true, reason)?;
+    if is_formatted {
+        let known = known_of(survey, index);
+        Ok(MarkedDisk::new(disk, keeper, course, known))
+    } else {
+        let disk = formatted(rt, folder.as_str(), nodes, node, disk, &noted)?;
+        Ok(MarkedDisk::new(disk, keeper, None, None))
     }
 }
 
@@ -310,7 +307,13 @@ fn open_home<
         return Ok(HomeDisk::new(home, None));
     }
     let reason = home.reason()?;
-    let disk = open_disk(rt, nodes, dir, cluster, node, survey, reason)?;
+    let mark = Mark {
+        identity: cluster.identity,
+        node,
+        ..mark_of(survey, cluster, node)
+    };
+    home.go_on(&mark);
+    let disk = open_disk(rt, nodes, dir, cluster, mark, survey, reason)?;
     let folder = home.folder();
     let lock = survey.locks.give(folder);
     let id = folder_id(rt, folder);
@@ -342,7 +345,13 @@ pub(crate) fn open_homes<
         let Some(node) = NodeId::new(nodes, index) else {
             unreachable!()
         };
-        let site = Site::new(rt.alloc(), nodes, dir, cluster.identity, node)?;
+        let owner = Owner {
+            identity: cluster.identity,
+            nodes,
+            node,
+            replaced: cluster.replaced,
+        };
+        let site = Site::new(rt.alloc(), dir, owner)?;
         let reason = reasons.of(index)?;
         let home = FolderHome::new(rt.alloc(), rt, site, reason, Arc::try_clone(&noter)?);
         homes.push(open_home(rt, nodes, dir, cluster, node, without, survey, home)?)?;
@@ -360,7 +369,7 @@ fn mark_nodes<F, R: Files<File = F> + AllocGlobal>(
     for (index, seen) in survey.seen.iter().enumerate() {
         if index < 7 {
             if let (Some(node), Some(seen)) = (NodeId::new(cluster.nodes, index as u8), seen) {
-                write_mark(rt, dir, node, cluster.identity, seen)?;
+                write_mark(rt, dir, node, cluster, seen)?;
             }
         }
     }
@@ -477,6 +486,7 @@ pub(crate) fn begin<F, R: Files<File = F> + AllocGlobal>(
         identity: draw_identity(rt)?,
         nodes,
         formatted: NodeSet::empty(),
+        replaced: 0,
     };
     match write_cluster(rt, dir, &cluster) {
         Ok(()) => Ok(cluster),
@@ -485,6 +495,32 @@ pub(crate) fn begin<F, R: Files<File = F> + AllocGlobal>(
             Err(closed)
         }
     }
+}
+
+// How often nodes were replaced, by the marks of their folders.
+fn replaced_by<F>(survey: &Survey<F>) -> u64 {
+    let mut replaced = 0u64;
+    for seen in survey.seen.iter() {
+        let Some(
+            Seen {
+                found: Found {
+                    mark: Some(mark),
+                    ..
+                },
+                ..
+            },
+        ) = seen
+        else {
+            continue;
+        };
+        for _ in 0..mark.replaced {
+            match once_more(replaced, mark.node) {
+                Some(more) => replaced = more,
+                None => break,
+            }
+        }
+    }
+    replaced
 }
 
 /// Takes a cluster on that has no file: marks its folders, and writes the file. Some folder may name its identity.
@@ -501,11 +537,11 @@ pub(crate) fn take_on<F, R: Files<File = F> + AllocGlobal>(
         Some(identity) => identity,
         None => draw_identity(rt)?,
     };
-    let formatted = NodeSet::empty();
     let cluster = Cluster {
         identity,
         nodes,
-        formatted,
+        formatted: NodeSet::empty(),
+        replaced: replaced_by(survey),
     };
     match mark_nodes(rt, dir, &cluster, survey) {
         Ok(()) => conclude(rt, dir, &cluster, survey),

@@ -55,8 +55,8 @@ impl Judged {
     }
 }
 
-// The folder that a verdict refuses, and why.
-fn refused_by(verdict: Verdict) -> Option<(NodeId, Fault)>
+/// The folder that a verdict refuses, and why.
+pub(crate) fn refused_by(verdict: Verdict) -> Option<(NodeId, Fault)>
     ensures { result ≡ refused_by verdict }
 {
     match verdict {
@@ -91,7 +91,7 @@ fn numbers_refusal<R: Files + AllocGlobal>(
             None => return Ok(None),
         },
         Err(error) if error.kind() == ErrorKind::OutOfMemory => return Err(AllocError),
-        Err(error) => error,
+        Err(_) => return Ok(file.take_failed()),
     };
     let path = format!(in rt.alloc(); "{dir}/requests")?;
     let call = "reading";

@@ -3,9 +3,9 @@
 ghost use Rattle.std.specs.Prelude.{◌≡◌, ◌+◌, ◌≤◌, ◌<◌, length, option_map, is_some, Option, Some, None};
 ghost use Rattle.std.specs.List.{list_all};
 ghost use Rattle.rr_types.specs.Limits.{max_nodes};
-ghost use Rattle.rr_folders.specs.Judging.{mark_fault, owner_fault, loss_fault, course_of, lapse_of, lapse_fault, forgetful_fault, lag_fault, outdated_fault, memory_fault, disk_fault, fault_of, return_fault, fault_at, first_fault, is_blank, is_fresh, is_fresh_at, first_identity, first_left_out, first_there, count_there, leave_fault, verdict_by_nodes, verdict_by_file, verdict_by_all, verdict_by_folders, verdict_of, Guards, MayReturn};
+ghost use Rattle.rr_folders.specs.Judging.{mark_fault, owner_fault, loss_fault, course_of, lapse_of, lapse_fault, forgetful_fault, lag_fault, outdated_fault, older_fault, memory_fault, disk_fault, fault_of, return_fault, fault_at, first_fault, is_blank, is_fresh, is_fresh_at, first_identity, first_left_out, first_there, count_there, leave_fault, verdict_by_nodes, verdict_by_file, verdict_by_all, verdict_by_folders, verdict_of, Guards, MayReturn, stale_fault, noted_fault, past_fault};
 
-use crate::cluster::{Cluster, Course, Digest, Identity, Mark, Reached};
+use crate::cluster::{Cluster, Course, Digest, Identity, Mark, Reached, times_in};
 use crate::front::Content;
 use rr_types::{NodeId, NodeSet, Nodes, made_of};
 
@@ -20,6 +20,8 @@ pub struct Found {
     pub active: Option<Reached>,
     /// What was noted last of the folder's mark, outside the folder. None: nothing.
     pub noted: Option<Mark>,
+    /// How far its active area came, looked at as far as was noted of that epoch. None: no area is active, or that wasn't looked at.
+    pub by_note: Option<Reached>,
 }
 
 /// Why the folder of a node may not be opened.
@@ -45,8 +47,10 @@ pub enum Fault {
     Shorter,
     /// The active area has other bytes than the node has marked.
     Altered,
-    /// The node's mark, or its disk, isn't as far as it was noted to be once: the folder is an older copy.
+    /// The node's mark and its disk aren't as far as was noted once: the folder is an older copy.
     Outdated,
+    /// The node was replaced since, by the cluster's file: the folder is one of before.
+    Replaced,
     /// The folder is left out, and those that aren't are no majority.
     LeftOut,
     /// The folder is left out, and no cluster's file says that each node has been formatted.
@@ -66,12 +70,35 @@ pub enum Verdict {
     Refused(NodeId, Fault),
 }
 
-// What folders are to be: this cluster's, for so many nodes, of which these have been formatted. None: all may have been.
+/// What a cluster's file says of the past of its nodes: which have been formatted, and how often nodes were replaced.
+#[derive(Clone, Copy, Debug)]
+pub struct Past {
+    /// The nodes that have been formatted.
+    pub formatted: NodeSet,
+    /// The sum of 256^P for each time that a node P was replaced.
+    pub replaced: u64,
+}
+
+/// Whose a folder is: this node's, of so many in this cluster, of which nodes were replaced so often.
+#[derive(Clone, Copy, Debug)]
+pub struct Owner {
+    /// The cluster.
+    pub identity: Identity,
+    /// How many nodes it has.
+    pub nodes: Nodes,
+    /// The node.
+    pub node: NodeId,
+    /// The sum of 256^P for each time that a node P was replaced.
+    pub replaced: u64,
+}
+
+// What folders are to be: this cluster's, for so many nodes of this past. None: all may have been formatted, and no file counts
+// replacements.
 #[derive(Clone, Copy, Debug)]
 struct Expected {
     identity: Identity,
     nodes: Nodes,
-    formatted: Option<NodeSet>,
+    past: Option<Past>,
 }
 
 // What the file in a node's folder has against it.
@@ -181,14 +208,40 @@ fn lag_fault(noted: Option<Course>, course: Option<Course>) -> Option<Fault>
     }
 }
 
+// What a mark has against it of which this one was noted. One from behind a replacement is another disk's, and further.
+fn noted_fault(noted: Mark, mark: Mark) -> Option<Fault>
+    ensures { result ≡ noted_fault noted mark }
+{
+    if mark.replaced < noted.replaced {
+        Some(Fault::Outdated)
+    } else if mark.replaced == noted.replaced {
+        lag_fault(noted.course, mark.course)
+    } else {
+        None
+    }
+}
+
 // That a folder is older than what was noted of it.
 fn outdated_fault(noted: Option<Mark>, mark: Option<Mark>) -> Option<Fault>
     ensures { result ≡ outdated_fault noted mark }
 {
+    made_of!(Course, Reached, Digest, Identity);
     let noted = noted?;
     let mark = mark?;
     if noted.identity.is(mark.identity) {
-        lag_fault(noted.course, mark.course)
+        noted_fault(noted, mark)
+    } else {
+        None
+    }
+}
+
+// That a node was replaced since its folder was marked.
+fn stale_fault(replaced: u64, node: NodeId, mark: Option<Mark>) -> Option<Fault>
+    ensures { result ≡ stale_fault replaced node mark }
+{
+    let mark = mark?;
+    if mark.replaced < times_in(replaced, node) {
+        Some(Fault::Replaced)
     } else {
         None
     }
@@ -202,6 +255,18 @@ pub(crate) fn is_outdated(noted: Mark, mark: Mark) -> bool
     outdated_fault(Some(noted), Some(mark)).is_some()
 }
 
+// That a folder is older than what was noted of it. A mark that is behind that is nothing, where the disk isn't.
+fn older_fault(found: &Found) -> Option<Fault>
+    ensures { result ≡ older_fault found.now }
+{
+    made_of!(Mark, Course, Reached, Digest, Identity);
+    let fault = outdated_fault(found.noted, found.mark)?;
+    match forgetful_fault(course_of(found.noted), found.by_note) {
+        Some(_) => Some(fault),
+        None => None,
+    }
+}
+
 // That a node forgot something.
 fn memory_fault(found: &Found) -> Option<Fault>
     ensures { result ≡ memory_fault found.now }
@@ -209,62 +274,80 @@ fn memory_fault(found: &Found) -> Option<Fault>
     made_of!(Mark, Course, Reached, Digest, Identity);
     match forgetful_fault(course_of(found.mark), found.active) {
         Some(fault) => Some(fault),
-        None => outdated_fault(found.noted, found.mark),
+        None => older_fault(found),
+    }
+}
+
+// That no mark is in the folder of a node that has been formatted, or one from before it was replaced.
+fn past_fault(past: Option<Past>, node: NodeId, mark: Option<Mark>) -> Option<Fault>
+    ensures { result ≡ past_fault past node mark }
+{
+    made_of!(Course, Reached, Digest, Identity);
+    let past = past?;
+    if mark.is_none() {
+        Some(Fault::Unmarked)
+    } else {
+        stale_fault(past.replaced, node, mark)
     }
 }
 
 // What is lost of a node.
-fn disk_fault(formatted: Option<NodeSet>, node: NodeId, found: &Found) -> Option<Fault>
-    ensures { result ≡ disk_fault formatted node found.now }
+fn disk_fault(past: Option<Past>, node: NodeId, found: &Found) -> Option<Fault>
+    ensures { result ≡ disk_fault past node found.now }
 {
-    made_of!(Course, Reached, Digest, Identity);
-    let is_unmarked = match formatted {
-        Some(formatted) if !formatted.contains(node) => return None,
-        Some(_) => found.mark.is_none(),
-        None => false,
+    made_of!(Mark, Course, Reached, Digest, Identity);
+    let is_formatted = match &past {
+        Some(past) => past.formatted.contains(node),
+        None => true,
     };
+    if !is_formatted {
+        return None;
+    }
     if let Some(fault) = loss_fault(found.content) {
-        Some(fault)
-    } else if is_unmarked {
-        Some(Fault::Unmarked)
-    } else {
-        memory_fault(found)
+        return Some(fault);
+    }
+    match past_fault(past, node, found.mark) {
+        Some(fault) => Some(fault),
+        None => memory_fault(found),
     }
 }
 
 // What is wrong with the folder of a node.
 fn fault_of(expected: &Expected, node: NodeId, found: &Found) -> Option<Fault>
-    ensures { result ≡ fault_of expected.now.identity expected.now.nodes expected.now.formatted node found.now }
+    ensures { result ≡ fault_of expected.now.identity expected.now.nodes expected.now.past node found.now }
 {
     if let Some(fault) = mark_fault(expected.identity, node, found.mark) {
         return Some(fault);
     }
     match owner_fault(expected.nodes, node, found.content) {
         Some(fault) => Some(fault),
-        None => disk_fault(expected.formatted, node, found),
+        None => disk_fault(expected.past, node, found),
     }
 }
 
 /// What is wrong with the folder of a node of this cluster that starts again: as at an opening of the cluster, or the disk isn't as far as the
 /// node left it. It was looked at as far as that, too.
 pub(crate) fn return_fault(
-    identity: Identity,
-    nodes: Nodes,
-    node: NodeId,
+    owner: &Owner,
     found: &Found,
     left: Option<Course>,
     reached: Option<Reached>,
 ) -> Option<Fault>
-    ensures fault { result ≡ return_fault identity nodes node found.now left reached }
+    ensures fault { result ≡ return_fault owner.now found.now left reached }
     // A node comes back only to its own disk, as far as it was.
-    ensures guards { result ≡ None → MayReturn identity nodes node found.now left reached }
+    ensures guards { result ≡ None → MayReturn owner.now found.now left reached }
 {
     made_of!(Mark, Course, Reached, Digest, Identity, Found);
+    let node = owner.node;
     let _index = node.index();
+    let past = Past {
+        formatted: NodeSet::empty().with(node),
+        replaced: owner.replaced,
+    };
     let expected = Expected {
-        identity,
-        nodes,
-        formatted: Some(NodeSet::empty().with(node)),
+        identity: owner.identity,
+        nodes: owner.nodes,
+        past: Some(past),
     };
     match fault_of(&expected, node, found) {
         Some(fault) => Some(fault),
@@ -277,7 +360,7 @@ pub(crate) fn return_fault(
 
 // What is wrong with the folder at a node's place. One that is left out isn't looked at.
 fn fault_at(expected: &Expected, node: NodeId, found: &Option<Found>) -> Option<Fault>
-    ensures { result ≡ fault_at expected.now.identity expected.now.nodes expected.now.formatted node found.now }
+    ensures { result ≡ fault_at expected.now.identity expected.now.nodes expected.now.past node found.now }
 {
     match found {
         Some(found) => fault_of(expected, node, found),
@@ -288,7 +371,7 @@ fn fault_at(expected: &Expected, node: NodeId, found: &Option<Found>) -> Option<
 // The first folder that has a fault, from a node on.
 fn first_fault(expected: &Expected, index: u8, found: &[Option<Found>]) -> Option<(NodeId, Fault)>
     requires { index + length found.now ≤ max_nodes }
-    ensures { result ≡ first_fault expected.now.identity expected.now.nodes expected.now.formatted index found.now }
+    ensures { result ≡ first_fault expected.now.identity expected.now.nodes expected.now.past index found.now }
 {
     let [first, rest @ ..] = found else {
         return None;
@@ -411,10 +494,14 @@ fn by_nodes(nodes: Nodes, cluster: &Cluster, found: &[Option<Found>]) -> Verdict
 {
     made_of!(Cluster, Identity, Course, Reached, Digest, Found, Verdict);
     let _count = nodes.count();
+    let past = Past {
+        formatted: cluster.formatted,
+        replaced: cluster.replaced,
+    };
     let expected = Expected {
         identity: cluster.identity,
         nodes,
-        formatted: Some(cluster.formatted),
+        past: Some(past),
     };
     match first_fault(&expected, 0, found) {
         Some((node, fault)) => Verdict::Refused(node, fault),
@@ -462,7 +549,7 @@ fn by_all(nodes: Nodes, found: &[Option<Found>]) -> Verdict
     let expected = Expected {
         identity,
         nodes,
-        formatted: None,
+        past: None,
     };
     match first_fault(&expected, 0, found) {
         Some((node, fault)) => Verdict::Refused(node, fault),

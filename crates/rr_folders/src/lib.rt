@@ -7,7 +7,8 @@
 //!   are its two halves. `Locks` holds their locks, and reserves request numbers in a locked folder. `lock_node` locks a single node's
 //!   folder. `Shares` are the locks of those who only read, which keep off whoever runs nodes.
 //! - `read_disk` reads what a folder holds, and `verify` says whether those of a cluster agree. `verdict_text` prints that, and
-//!   `export` the registry of what they decided. None of them writes.
+//!   `export` the registry of what they decided. `sift_cluster` says which of them a start would refuse, and `use_readings` sets these aside. None
+//!   of them writes.
 //!
 //! # Example
 //!
@@ -46,12 +47,16 @@ mod mark_file;
 mod marked;
 mod noted;
 mod number_file;
+mod opening;
 mod plain;
 mod reading;
 mod reason;
+mod renewal;
+mod replacing;
 mod requests;
 mod returning;
 mod seen;
+mod sifting;
 mod telling;
 mod tip;
 mod trouble;
@@ -65,8 +70,7 @@ pub use exporting::export;
 pub use faults::print_fault;
 pub use fields::Form;
 pub use folder::{
-    Folders, NodeDisk, NodeFiles, NodeHome, Survey, enter, judge_folders, open_folders,
-    survey_folders,
+    Folders, NodeDisk, NodeHome, Survey, enter, judge_folders, open_folders, survey_folders,
 };
 pub use folder_home::FolderHome;
 pub use forming::{try_dir, try_folder};
@@ -76,11 +80,15 @@ pub use judging::Fault;
 pub use lock::{Lockable, Locks};
 pub use mark_file::{FolderMark, MarkKeeper, MarkWriter};
 pub use marked::MarkedDisk;
-pub use number_file::{NumberFile, reserve};
+pub use number_file::{NumberFile, Unreserved, reserve};
+pub use opening::{NodeFile, NodeFiles};
 pub use plain::{read_only_disk, see_plain};
 pub use reading::{Shares, lock_node, share_cluster, share_node};
 pub use reason::{Reasons, ToldFile};
+pub use renewal::{Bound, Renewal, renewed_folders, write_renewal};
+pub use replacing::{Replaced, Replacement, plan_replacement, replace_folder};
 pub use requests::{Block, greatest_in, reserve_in, see_in};
+pub use sifting::{Sifted, sift_cluster, use_readings};
 pub use telling::verdict_text;
 pub use verdict::{Verdict, crashed_folders_agree, verify};
 pub use verify_folder::{Reading, read_disk};

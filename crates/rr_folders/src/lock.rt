@@ -4,8 +4,9 @@ ghost use Rattle.std.specs.Prelude.{◌≡◌, ◌+◌, ◌≤◌, ◌⊎◌, �
 ghost use Rattle.rr_types.specs.declared.refusal.Refusal.TheVariants.{Device, OutOfMemory};
 
 use crate::closed::{Closed, done};
-use crate::number_file::{reserve, see_numbers};
+use crate::number_file::{Unreserved, reserve, see_numbers};
 use crate::plain::{open_folder, see_areas};
+use crate::reason::Reasons;
 use crate::requests::Block;
 use rr_disk::{FileDisk, OpenedFile};
 use rr_types::Refusal;
@@ -180,13 +181,13 @@ impl<F: Read + Write + Seek + FileExt + OpenFile + Drop> Locks<F> {
     /// Sees that request numbers can be reserved by the file `requests` of the folder DIR. Nothing is written.
     ///
     /// # Errors
-    /// Those of `see_in`.
-    pub fn see_numbers<R: Files<File = F> + AllocGlobal>(&self, rt: &R) -> Result<(), Refusal> {
+    /// Those of `see_in`, with the call that failed, if one did.
+    pub fn see_numbers<R: Files<File = F> + AllocGlobal>(&self, rt: &R) -> Result<(), Unreserved> {
         see_numbers(rt, self.dir())
     }
 
     /// Reserves the next block of request numbers, from `least` on, by the file `requests` of the folder DIR. No earlier block has any of
-    /// them.
+    /// them. Why a call failed is noted.
     ///
     /// # Errors
     /// Those of `reserve_in`.
@@ -194,10 +195,14 @@ impl<F: Read + Write + Seek + FileExt + OpenFile + Drop> Locks<F> {
         &self,
         rt: &R,
         least: u64,
+        reasons: &Reasons,
     ) -> Result<Block, Refusal>
         ensures whole { IfOk result (λ b. b.end ≡ b.next + 1048576) }
         ensures least { IfOk result (λ b. least ≤ b.next) }
     {
-        reserve(rt, self.dir(), least)
+        match reserve(rt, self.dir(), least) {
+            Ok(block) => Ok(block),
+            Err(unreserved) => Err(reasons.note_numbers(unreserved)),
+        }
     }
 }

@@ -3,12 +3,12 @@
 ghost use Rattle.std.specs.Prelude.{is_ok, Bool, Option, IfOk};
 
 use crate::closed::Closed;
-use crate::cluster::{Course, Identity, Mark};
+use crate::cluster::{Course, Mark};
 use crate::forming::{put_in_place, write_fresh};
 use crate::noted::note_marks;
 use crate::reason::Reason;
-use crate::returning::{Entered, FolderId, Site, enter_site, is_site};
-use rr_types::{NodeId, Refusal};
+use crate::returning::{Entered, FolderId, Site, Whereabouts, enter_site, whereabouts_of};
+use rr_types::Refusal;
 use std::alloc::{AllocError, Global};
 use std::fs::File;
 use std::rt::HostRuntime;
@@ -43,15 +43,15 @@ pub trait MarkWriter {
     /// `OutOfMemory`, `Failed`; it may have been put all the same.
     fn put_mark(&self, mark: &Mark, folder: &str, fresh: &str, path: &str) -> Result<(), Closed>;
 
-    /// Notes in the folder DIR how far the nodes' marks say that their disks came, from node 0 on: the mark in a node's folder, or where that
-    /// isn't the node's any more this one, which the node had last. None: the folder isn't looked at, and what was noted stays.
+    /// Notes in the folder DIR how far the nodes' disks came, from node 0 on: the mark in a node's folder, or where that isn't the node's or says
+    /// less, this one, which says how far its disk came. None: the folder isn't looked at, and what was noted stays.
     ///
     /// # Errors
     /// `OutOfMemory`, `Failed`; they may have been noted all the same.
     fn note(&self, dir: &str, last: &[Option<Mark>]) -> Result<(), Closed>;
 
-    /// Whether a node's folder, which was this one, is still in its place, with the node's mark.
-    fn is_at(&self, site: &Site, id: Option<FolderId>) -> bool;
+    /// Where a node's folder is, which was this one.
+    fn whereabouts(&self, site: &Site, id: Option<FolderId>) -> Whereabouts;
 
     /// Locks a node's folder, looks at it, and opens its files: only if it is the node's, and its disk as far as the node left it.
     ///
@@ -63,7 +63,7 @@ pub trait MarkWriter {
         left: Option<Course>,
         reason: Option<Arc<Reason, Global>>,
     ) -> Result<Entered<Self::Handle>, Closed>
-        ensures { IfOk result (λ _. IsReturn site.now.identity site.now.nodes site.now.node left) };
+        ensures { IfOk result (λ _. IsReturn site.now.owner left) };
 }
 
 impl MarkWriter for HostRuntime {
@@ -79,8 +79,8 @@ impl MarkWriter for HostRuntime {
         note_marks(self, dir, last)
     }
 
-    fn is_at(&self, site: &Site, id: Option<FolderId>) -> bool {
-        is_site(self, site, id)
+    fn whereabouts(&self, site: &Site, id: Option<FolderId>) -> Whereabouts {
+        whereabouts_of(self, site, id)
     }
 
     fn enter(
@@ -100,19 +100,18 @@ pub struct FolderMark<'x, R: MarkWriter> {
     folder: String,
     path: String,
     fresh: String,
-    identity: Identity,
-    node: NodeId,
+    // what it says but for how far the disk came
+    mark: Mark,
     reason: Option<Arc<Reason, Global>>,
 }
 
 impl<'x, R: MarkWriter> FolderMark<'x, R> {
-    /// That of the folder of a node of this cluster. Why a mark can't be put is noted.
+    /// That of a folder, which says what this mark says but for how far the disk came. Why a mark can't be put is noted.
     pub(crate) fn new(
         alloc: Global,
         rt: &'x R,
         folder: &str,
-        identity: Identity,
-        node: NodeId,
+        mark: Mark,
         reason: Option<Arc<Reason, Global>>,
     ) -> Result<FolderMark<'x, R>, AllocError> {
         Ok(FolderMark {
@@ -120,8 +119,7 @@ impl<'x, R: MarkWriter> FolderMark<'x, R> {
             folder: format!(in alloc; "{folder}")?,
             path: format!(in alloc; "{folder}/node")?,
             fresh: format!(in alloc; "{folder}/node.new")?,
-            identity,
-            node,
+            mark,
             reason,
         })
     }
@@ -129,9 +127,8 @@ impl<'x, R: MarkWriter> FolderMark<'x, R> {
     // Writes the file.
     fn write(&self, course: Course) -> Result<(), Closed> {
         let mark = Mark {
-            identity: self.identity,
-            node: self.node,
             course: Some(course),
+            ..self.mark
         };
         self.rt.put_mark(
             &mark,

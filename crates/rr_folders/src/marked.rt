@@ -16,15 +16,6 @@ use std::marker::Model;
 /// By how many bytes an area is longer than its mark says, until the mark is put anew.
 const FAR: u64 = 262_144;
 
-/// How far a disk came that was let go.
-#[derive(Clone, Copy, Debug)]
-pub(crate) struct Left {
-    /// As its mark says, if that says it and was put last.
-    pub(crate) marked: Option<Course>,
-    /// As it did, if that is known: its mark may not say so yet.
-    pub(crate) came: Option<Course>,
-}
-
 /// A disk under a journal, whose node's mark says how far its active area came. Before a switch opens the first gate of the other area,
 /// the mark names both areas; once that lasts, it names the new one, and only then the switch is over. At each opening, at the end
 /// of its life and now and then between, it names the last gate that lasts.
@@ -190,14 +181,14 @@ impl<D: Disk + Drop, K: MarkKeeper + Drop> MarkedDisk<D, K> {
         }
     }
 
-    /// Lets it go. Its last mark is put where it may be, as where its folder is still in its place.
-    pub(crate) fn leave(mut self, may_mark: bool) -> Left {
+    /// Lets it go, and gives how far it came, if that is known: its mark may not say so. The last mark is put where it may be, as where its folder is
+    /// still in its place.
+    pub(crate) fn leave(mut self, may_mark: bool) -> Option<Course> {
         made_of!(Course, Reached, Digest, Identity);
         let came = self.came();
         if may_mark {
             self.put_last();
         }
-        let marked = self.course;
         let MarkedDisk {
             below: _,
             keeper: _,
@@ -210,7 +201,7 @@ impl<D: Disk + Drop, K: MarkKeeper + Drop> MarkedDisk<D, K> {
             calls: _,
             faults: _,
         } = self;
-        Left { marked, came }
+        came
     }
 
     // Follows a write that was made.

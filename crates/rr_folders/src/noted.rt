@@ -22,7 +22,7 @@ const MOST: usize = 7;
 #[derive(Drop)]
 pub(crate) struct Noter {
     dir: String,
-    // the mark that a node had last, if its disk was ever open, from node 0 on
+    // how far the disk of a node came, as a mark says it, if it was ever open, from node 0 on
     last: Vec<OnceLock<Mark>>,
     // how many disks haven't been let go
     held: AtomicU64,
@@ -46,7 +46,7 @@ impl Noter {
         })
     }
 
-    // The marks that the nodes had last, as far as they are known by now.
+    // How far the nodes' disks came, as far as that is known by now.
     fn marks(&self) -> [Option<Mark>; MOST] {
         made_of!(Mark, Course, Reached, Digest, Identity);
         let mut marks = [None; MOST];
@@ -59,7 +59,7 @@ impl Noter {
         marks
     }
 
-    /// Lets one of the disks go, whose node had this mark last; none, if it was never open. Behind the last one the marks are noted. Where they
+    /// Lets one of the disks go, which came as far as this mark says; none, if it was never open. Behind the last one all is noted. Where it
     /// can't be, what was noted before holds on.
     pub(crate) fn let_go<R: MarkWriter>(&self, rt: &R, node: NodeId, mark: Option<Mark>) {
         if let Some(mark) = mark {
@@ -97,6 +97,7 @@ pub(crate) fn note_all<R: Files + AllocGlobal>(
                     identity,
                     node,
                     course: None,
+                    replaced: 0,
                 });
             }
         }
@@ -193,13 +194,34 @@ fn line_of(mark: Option<Mark>, is_found: bool) -> Option<Line> {
     Some(Line { mark, is_found })
 }
 
-// What is to be noted of a node: the mark in its folder, else the one that it had last.
+// What is to be noted of a node: the mark in its folder, else how far its disk came last. What was noted before stays where it says more: a
+// folder's mark may be behind it, though its disk isn't.
 fn latest_line(found: &Option<Mark>, last: &Mark, noted: Option<Mark>) -> Option<Line> {
-    let own = own_mark(found, last);
+    made_of!(Mark, Course, Reached, Digest, Identity);
+    let Line { mark, is_found } = line_by(own_mark(found, last), known_mark(last, noted))?;
+    if says_more(&noted, &mark) {
+        line_of(noted, false)
+    } else {
+        Some(Line { mark, is_found })
+    }
+}
+
+// What is to be noted of a node: a mark that was found, else what is known.
+fn line_by(own: Option<Mark>, known: Option<Mark>) -> Option<Line> {
+    made_of!(Mark, Course, Reached, Digest, Identity);
     if own.is_some() {
         line_of(own, true)
     } else {
-        line_of(known_mark(last, noted), false)
+        line_of(known, false)
+    }
+}
+
+// Whether what was noted before says more of a node than this mark.
+fn says_more(noted: &Option<Mark>, mark: &Mark) -> bool {
+    made_of!(Mark, Course, Reached, Digest, Identity);
+    match noted {
+        Some(before) => is_outdated(*before, *mark),
+        None => false,
     }
 }
 
@@ -262,7 +284,8 @@ fn sync_folders<R: Files + AllocGlobal>(
     Ok(())
 }
 
-/// Notes the marks of the nodes that had these last, unless the file says the same or there are none. What is noted lasts in the folders.
+/// Notes the marks of the nodes whose disks came this far last, unless the file says the same or there are none. What is noted lasts in the
+/// folders.
 pub(crate) fn note_marks<R: Files + AllocGlobal>(
     rt: &R,
     dir: &str,

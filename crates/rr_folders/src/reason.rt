@@ -3,12 +3,14 @@
 
 ghost use Rattle.std.specs.Prelude.{◌≡◌};
 
-use crate::closed::Closed;
-use crate::faults::print_fault;
+use crate::closed::{Closed, failed};
+use crate::faults::{print_fault, print_moved};
 use crate::noted::node_at;
+use crate::number_file::Unreserved;
+use crate::returning::Whereabouts;
 use crate::trouble::{Call, Spot, Trouble, code_of, error_of};
 use rr_disk::{Area, AreaFile};
-use rr_types::{NodeId, Nodes};
+use rr_types::{NodeId, Nodes, Refusal};
 use std::alloc::{AllocError, Global};
 use std::io;
 use std::io::Write;
@@ -43,9 +45,33 @@ impl Reason {
         }
     }
 
+    /// Notes that the folder isn't in its place any more, if it isn't.
+    pub(crate) fn note_whereabouts(&self, whereabouts: Whereabouts) {
+        let trouble = match whereabouts {
+            Whereabouts::Removed => Trouble::Removed,
+            Whereabouts::Replaced => Trouble::Replaced,
+            Whereabouts::Home | Whereabouts::Unknown => return,
+        };
+        self.noted.store(trouble.number(), Ordering::SeqCst);
+    }
+
     /// Notes that the disk is open again.
     pub(crate) fn note_nothing(&self) {
         self.noted.store(0, Ordering::SeqCst);
+    }
+
+    /// The call that failed in a folder, if one was noted.
+    pub(crate) fn closed<R: AllocGlobal>(&self, rt: &R, folder: &str) -> Option<Closed> {
+        let (name, call, code) = match self.trouble()? {
+            Trouble::Area { area, call, code } => (Spot::of_area(area).name(), call, code),
+            Trouble::Entering { spot, call, code } => (spot.name(), call, code),
+            _ => return None,
+        };
+        let path = match format!(in rt.alloc(); "{folder}{name}") {
+            Ok(path) => path,
+            Err(_) => return Some(Closed::OutOfMemory),
+        };
+        Some(failed(rt, path.as_str(), call.words(), error_of(code)))
     }
 
     // What was noted.
@@ -90,6 +116,8 @@ fn print_trouble<W: Write>(
             print_entering(err, dir, node, *spot, *call, &error_of(*code))
         }
         Trouble::InUse => writeln!(err, "{dir}/{index}: another program has locked it"),
+        Trouble::Removed => print_moved(err, dir, nodes, node, true),
+        Trouble::Replaced => print_moved(err, dir, nodes, node, false),
         Trouble::Refused(fault) => print_fault(err, dir, nodes, node, fault),
     }
 }
@@ -113,12 +141,13 @@ fn print_entering<W: Write>(
     }
 }
 
-/// Why the disks of a cluster's nodes failed or aren't opened again, from node 0 on.
+/// Why the disks of a cluster's nodes failed or aren't opened again, from node 0 on, and why no request numbers could be reserved.
 #[derive(Drop)]
 pub struct Reasons {
     dir: String,
     nodes: Nodes,
     noted: Vec<Arc<Reason, Global>>,
+    numbers: Reason,
 }
 
 impl Reasons {
@@ -132,7 +161,19 @@ impl Reasons {
             dir: format!(in alloc; "{dir}")?,
             nodes,
             noted,
+            numbers: Reason::new(),
         })
+    }
+
+    /// Notes why no request numbers are reserved, and gives the refusal.
+    pub(crate) fn note_numbers(&self, unreserved: Unreserved) -> Refusal
+        ensures { result ≡ unreserved.refusal }
+    {
+        let Unreserved { refusal, why } = unreserved;
+        if let Some(closed) = &why {
+            self.numbers.note_closed(closed);
+        }
+        refusal
     }
 
     /// That of a node's disk.
@@ -176,19 +217,42 @@ impl Reasons {
         }
     }
 
-    /// Prints the first that was noted, in the folder DIR: the file, the call and the system's words, or what is wrong with the folder. It is
-    /// false where none was.
+    /// Whether the folder of some node wasn't in its place any more when the node's disk was let go last: it was removed or replaced meanwhile.
+    pub fn have_moved(&self) -> bool {
+        self.noted.iter().any(|reason| match reason.trouble() {
+            Some(trouble) => trouble.is_of_place(),
+            None => false,
+        })
+    }
+
+    // Prints why no request numbers are reserved, where a call failed.
+    fn print_numbers<W: Write>(&self, err: &mut W, dir: &str) -> io::Result<bool> {
+        match self.numbers.trouble() {
+            Some(Trouble::Entering { spot, call, code }) => {
+                let (name, call, error) = (spot.name(), call.words(), error_of(code));
+                writeln!(err, "{dir}{name}: {call}: {error}")?;
+                Ok(true)
+            }
+            _ => Ok(false),
+        }
+    }
+
+    /// Prints in the folder DIR the first that was noted, the file, the call and the system's words, or what is wrong with the folder; and each
+    /// folder that isn't in its place any more. A line has one. That of the request numbers comes first. It is false where nothing was noted.
     ///
     /// # Errors
     /// Those of the writer.
     pub fn print<W: Write>(&self, err: &mut W, dir: &str) -> io::Result<bool> {
+        let mut has_printed = self.print_numbers(err, dir)?;
         for (index, reason) in self.noted.iter().enumerate() {
             if let (Some(trouble), Some(node)) = (reason.trouble(), node_at(index)) {
-                print_trouble(err, dir, self.nodes, node, &trouble)?;
-                return Ok(true);
+                if trouble.is_of_place() || !has_printed {
+                    print_trouble(err, dir, self.nodes, node, &trouble)?;
+                    has_printed = true;
+                }
             }
         }
-        Ok(false)
+        Ok(has_printed)
     }
 }
 

@@ -5,20 +5,18 @@ ghost use Rattle.std.specs.Prelude.{◌≡◌, Some, IfOk};
 ghost use Rattle.rr_folders.specs.Returns.{IsReturn};
 
 use crate::closed::Closed;
-use crate::cluster::{Course, Identity, Mark};
-use crate::folder::{NodeFiles, open_files};
-use crate::forming::unopened;
-use crate::judging::{Fault, return_fault};
+use crate::cluster::{Course, Mark};
+use crate::judging::{Fault, Owner, return_fault};
 use crate::lock::{Held, Lockable, lock_at};
 use crate::noted::{noted_in, noted_of};
+use crate::opening::{NodeFiles, open_files};
 use crate::reason::Reason;
-use crate::seen::{Seen, course_of, is_there, look_over, mark_in, reached_by};
+use crate::seen::{Seen, is_there, look_over, mark_in, reached_by, with_note};
 use crate::tip::Tip;
-use rr_types::{NodeId, Nodes};
 use std::alloc::{AllocError, Global};
 use std::fs;
 use std::fs::OpenFile;
-use std::io::{Read, Seek, Write};
+use std::io::{ErrorKind, Read, Seek, Write};
 use std::os::unix::fs::{FileExt, MetadataExt};
 use std::rt::Files;
 use std::sync::Arc;
@@ -28,27 +26,17 @@ use std::sync::Arc;
 pub struct Site {
     pub(crate) dir: String,
     pub(crate) folder: String,
-    pub(crate) identity: Identity,
-    pub(crate) nodes: Nodes,
-    pub(crate) node: NodeId,
+    pub(crate) owner: Owner,
 }
 
 impl Site {
     /// The place of a node of a cluster in the folder DIR.
-    pub(crate) fn new(
-        alloc: Global,
-        nodes: Nodes,
-        dir: &str,
-        identity: Identity,
-        node: NodeId,
-    ) -> Result<Site, AllocError> {
-        let index = node.index();
+    pub(crate) fn new(alloc: Global, dir: &str, owner: Owner) -> Result<Site, AllocError> {
+        let index = owner.node.index();
         Ok(Site {
             dir: format!(in alloc; "{dir}")?,
             folder: format!(in alloc; "{dir}/{index}")?,
-            identity,
-            nodes,
-            node,
+            owner,
         })
     }
 }
@@ -71,33 +59,55 @@ pub(crate) fn folder_id<R: Files>(rt: &R, folder: &str) -> Option<FolderId> {
     }
 }
 
-// Whether this folder is at a path.
-fn is_at<R: Files>(rt: &R, folder: &str, id: FolderId) -> bool {
-    match folder_id(rt, folder) {
-        Some(found) => found.device == id.device && found.number == id.number,
-        None => false,
-    }
+/// Where a node's folder is that was opened.
+#[derive(Clone, Copy, Debug)]
+pub enum Whereabouts {
+    /// In its place, with the node's mark.
+    Home,
+    /// Nothing is in its place.
+    Removed,
+    /// Another folder is in its place, or it has the node's mark no more.
+    Replaced,
+    /// That can't be known, as a call failed.
+    Unknown,
 }
 
 // Whether a mark is a node's.
 fn is_mark_of(mark: Option<Mark>, site: &Site) -> bool {
     match mark {
-        Some(mark) => mark.identity.is(site.identity) && mark.node == site.node,
+        Some(mark) => mark.identity.is(site.owner.identity) && mark.node == site.owner.node,
         None => false,
     }
 }
 
-// Whether there is a node's mark in its folder.
-fn has_mark<R: Files + AllocGlobal>(rt: &R, site: &Site) -> bool {
-    let mark = mark_in(rt, site.folder.as_str()).unwrap_or(None);
-    is_mark_of(mark, site)
+// Where a folder is in whose place it is still, by the mark in it.
+fn whereabouts_by<R: Files + AllocGlobal>(rt: &R, site: &Site) -> Whereabouts {
+    let Ok(mark) = mark_in(rt, site.folder.as_str()) else {
+        return Whereabouts::Unknown;
+    };
+    if is_mark_of(mark, site) {
+        Whereabouts::Home
+    } else {
+        Whereabouts::Replaced
+    }
 }
 
-/// Whether a node's folder, which was this one, is still in its place, with the node's mark.
-pub(crate) fn is_site<R: Files + AllocGlobal>(rt: &R, site: &Site, id: Option<FolderId>) -> bool {
-    match id {
-        Some(id) => is_at(rt, site.folder.as_str(), id) && has_mark(rt, site),
-        None => false,
+/// Where a node's folder is, which was this one.
+pub(crate) fn whereabouts_of<R: Files + AllocGlobal>(
+    rt: &R,
+    site: &Site,
+    id: Option<FolderId>,
+) -> Whereabouts {
+    let Some(id) = id else {
+        return Whereabouts::Unknown;
+    };
+    match fs::metadata(rt, site.folder.as_str()) {
+        Ok(found) if found.dev() == id.device && found.ino() == id.number => {
+            whereabouts_by(rt, site)
+        }
+        Ok(_) => Whereabouts::Replaced,
+        Err(error) if error.kind() == ErrorKind::NotFound => Whereabouts::Removed,
+        Err(_) => Whereabouts::Unknown,
     }
 }
 
@@ -106,8 +116,8 @@ pub(crate) fn is_site<R: Files + AllocGlobal>(rt: &R, site: &Site, id: Option<Fo
 pub struct Entered<F> {
     pub(crate) lock: Held<F>,
     pub(crate) files: NodeFiles<F>,
-    // what its mark says, and what is known of its active area then
-    pub(crate) course: Option<Course>,
+    // its mark, and what is known of its active area then
+    pub(crate) mark: Option<Mark>,
     pub(crate) known: Option<Tip>,
     pub(crate) id: Option<FolderId>,
 }
@@ -118,22 +128,16 @@ fn look_again<R: Files + AllocGlobal>(
     site: &Site,
     left: Option<Course>,
 ) -> Result<(Seen, Option<Tip>), Closed>
-    ensures { IfOk result (λ _. IsReturn site.now.identity site.now.nodes site.now.node left) }
+    ensures { IfOk result (λ _. IsReturn site.now.owner left) }
 {
     let folder = site.folder.as_str();
     let noted = noted_in(rt, site.dir.as_str())?;
-    let (mut seen, tip) = look_over(rt, folder)?;
+    let (seen, tip) = look_over(rt, folder)?;
     let reached = reached_by(rt, folder, &seen, left)?;
-    seen.found.noted = noted_of(noted.as_slice(), site.node.index());
-    match return_fault(
-        site.identity,
-        site.nodes,
-        site.node,
-        &seen.found,
-        left,
-        reached,
-    ) {
-        Some(fault) => Err(Closed::Refused(site.node, fault)),
+    let noted = noted_of(noted.as_slice(), site.owner.node.index());
+    let seen = with_note(rt, folder, seen, noted)?;
+    match return_fault(&site.owner, &seen.found, left, reached) {
+        Some(fault) => Err(Closed::Refused(site.owner.node, fault)),
         None => Ok((seen, tip)),
     }
 }
@@ -151,22 +155,20 @@ pub(crate) fn enter_site<
     left: Option<Course>,
     reason: Option<Arc<Reason, Global>>,
 ) -> Result<Entered<F>, Closed>
-    ensures { IfOk result (λ _. IsReturn site.now.identity site.now.nodes site.now.node left) }
+    ensures { IfOk result (λ _. IsReturn site.now.owner left) }
 {
     let folder = site.folder.as_str();
     if !is_there(rt, folder)? {
-        return Err(Closed::Refused(site.node, Fault::Missing));
+        return Err(Closed::Refused(site.owner.node, Fault::Missing));
     }
     let lock = lock_at(rt, folder)?;
     let (seen, known) = look_again(rt, site, left)?;
-    match open_files(rt, folder, false, reason) {
-        Ok(files) => Ok(Entered {
-            lock,
-            files,
-            course: course_of(seen.found.mark),
-            known,
-            id: folder_id(rt, folder),
-        }),
-        Err(refusal) => Err(unopened(rt, folder, site.node, refusal)),
-    }
+    let files = open_files(rt, folder, site.owner.node, false, reason)?;
+    Ok(Entered {
+        lock,
+        files,
+        mark: seen.found.mark,
+        known,
+        id: folder_id(rt, folder),
+    })
 }

@@ -3,7 +3,7 @@
 use crate::closed::{Closed, done, failed};
 use crate::cluster::{Cluster, Course, Digest, Identity, Mark, Reached};
 use crate::front::{Active, AreaFront, Content, active_of, content_of, front_of};
-use crate::judging::Found;
+use crate::judging::{Found, is_outdated};
 use crate::lock::Locks;
 use crate::plain::is_plain;
 use crate::tip::{Tip, digest_of};
@@ -176,6 +176,36 @@ pub(crate) fn reached_by<R: Files + AllocGlobal>(
     Ok(reached)
 }
 
+/// What was found of a folder that was looked over, with what was noted of its mark. Where the mark is behind that, its active area is looked at
+/// as far as that.
+pub(crate) fn with_note<R: Files + AllocGlobal>(
+    rt: &R,
+    folder: &str,
+    seen: Seen,
+    noted: Option<Mark>,
+) -> Result<Seen, Closed> {
+    made_of!(Mark, Course, Reached, Digest, Identity);
+    let ahead = ahead_of(&noted, &seen.found.mark);
+    let by_note = reached_by(rt, folder, &seen, ahead)?;
+    let mut seen = seen;
+    seen.found.noted = noted;
+    seen.found.by_note = by_note;
+    Ok(seen)
+}
+
+// How far a disk came, by what was noted of a mark that is behind that. None: it isn't.
+fn ahead_of(noted: &Option<Mark>, mark: &Option<Mark>) -> Option<Course> {
+    made_of!(Mark, Course, Reached, Digest, Identity);
+    let (Some(before), Some(mark)) = (noted, mark) else {
+        return None;
+    };
+    if is_outdated(*before, *mark) {
+        before.course
+    } else {
+        None
+    }
+}
+
 /// What is found of a node's folder, while these locks are held; and what is known of its active area then.
 pub(crate) fn look_at<R: Files + AllocGlobal>(
     rt: &R,
@@ -210,6 +240,7 @@ pub(crate) fn look_over<R: Files + AllocGlobal>(
             mark,
             active,
             noted: None,
+            by_note: None,
         },
         first,
         second,
@@ -227,6 +258,7 @@ fn nothing_seen() -> Seen {
             mark: None,
             active: None,
             noted: None,
+            by_note: None,
         },
         first: AreaFront::Missing,
         second: AreaFront::Missing,

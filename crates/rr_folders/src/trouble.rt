@@ -20,6 +20,8 @@ pub(crate) enum Call {
     OpeningFolder,
     Locking,
     Making,
+    Renaming,
+    SyncingFolder,
 }
 
 impl Call {
@@ -34,6 +36,8 @@ impl Call {
             Call::OpeningFolder => "opening the folder",
             Call::Locking => "locking",
             Call::Making => "making the file",
+            Call::Renaming => "renaming",
+            Call::SyncingFolder => "syncing the folder",
         }
     }
 
@@ -47,13 +51,15 @@ impl Call {
             "opening the folder" => Call::OpeningFolder,
             "locking" => Call::Locking,
             "making the file" => Call::Making,
+            "renaming" => Call::Renaming,
+            "syncing the folder" => Call::SyncingFolder,
             _ => Call::Opening,
         }
     }
 
     // Its number.
     fn number(self) -> u64
-        ensures { result ≤ 7 }
+        ensures { result ≤ 15 }
     {
         match self {
             Call::Reading => 0,
@@ -64,6 +70,8 @@ impl Call {
             Call::OpeningFolder => 5,
             Call::Locking => 6,
             Call::Making => 7,
+            Call::Renaming => 8,
+            Call::SyncingFolder => 9,
         }
     }
 
@@ -77,7 +85,9 @@ impl Call {
             4 => Call::Opening,
             5 => Call::OpeningFolder,
             6 => Call::Locking,
-            _ => Call::Making,
+            7 => Call::Making,
+            8 => Call::Renaming,
+            _ => Call::SyncingFolder,
         }
     }
 }
@@ -95,16 +105,30 @@ pub(crate) enum Spot {
     Mark,
     /// The file of the cluster in which marks are noted.
     Marks,
+    /// The file of request numbers.
+    Numbers,
+    /// The new file of request numbers, until it is put in place of that.
+    FreshNumbers,
 }
 
 impl Spot {
-    /// What stands behind DIR in its path, around the node's number.
+    /// What stands in its path behind DIR, and the node's number if it is a node's.
     pub(crate) fn name(self) -> &'static str {
         match self {
             Spot::Folder | Spot::Marks => "",
             Spot::First => "/a0",
             Spot::Second => "/a1",
             Spot::Mark => "/node",
+            Spot::Numbers => "/requests",
+            Spot::FreshNumbers => "/requests.new",
+        }
+    }
+
+    /// The file of an area.
+    pub(crate) fn of_area(area: Area) -> Spot {
+        match area {
+            Area::First => Spot::First,
+            Area::Second => Spot::Second,
         }
     }
 
@@ -118,6 +142,10 @@ impl Spot {
             Spot::Mark
         } else if path.ends_with("/marks") {
             Spot::Marks
+        } else if path.ends_with("/requests") {
+            Spot::Numbers
+        } else if path.ends_with("/requests.new") {
+            Spot::FreshNumbers
         } else {
             Spot::Folder
         }
@@ -133,6 +161,8 @@ impl Spot {
             Spot::Second => 2,
             Spot::Mark => 3,
             Spot::Marks => 4,
+            Spot::Numbers => 5,
+            Spot::FreshNumbers => 6,
         }
     }
 
@@ -143,7 +173,9 @@ impl Spot {
             1 => Spot::First,
             2 => Spot::Second,
             3 => Spot::Mark,
-            _ => Spot::Marks,
+            4 => Spot::Marks,
+            5 => Spot::Numbers,
+            _ => Spot::FreshNumbers,
         }
     }
 }
@@ -188,6 +220,10 @@ pub(crate) enum Trouble {
     Entering { spot: Spot, call: Call, code: u64 },
     /// Another program has locked the folder.
     InUse,
+    /// The folder was removed while the disk in it was open.
+    Removed,
+    /// Another folder has come to its place while the disk in it was open, or it has lost its mark.
+    Replaced,
     /// The folder may not be opened.
     Refused(Fault),
 }
@@ -212,6 +248,11 @@ impl Trouble {
         }
     }
 
+    /// Whether it is that the folder isn't in its place any more.
+    pub(crate) fn is_of_place(&self) -> bool {
+        matches!(self, Trouble::Removed | Trouble::Replaced)
+    }
+
     /// Its number, which isn't 0.
     pub(crate) fn number(self) -> u64 {
         match self {
@@ -226,6 +267,8 @@ impl Trouble {
                 2 + 4 * packed(spot.number(), call.number(), code)
             }
             Trouble::InUse => 3,
+            Trouble::Removed => 3 + 4,
+            Trouble::Replaced => 3 + 8,
             Trouble::Refused(fault) => {
                 let (kind, detail) = numbers_of(fault);
                 4 + 4 * packed(detail, 0, kind)
@@ -236,7 +279,7 @@ impl Trouble {
     /// What has a number. None: nothing went wrong.
     pub(crate) fn of_number(number: u64) -> Option<Trouble> {
         let rest = number / 4;
-        let (low, call, code) = (rest % 8, Call::of_number(rest / 8 % 8), rest / 64);
+        let (low, call, code) = (rest % 8, Call::of_number(rest / 8 % 16), rest / 128);
         match number % 4 {
             1 if low == 0 => Some(Trouble::Area {
                 area: Area::First,
@@ -253,23 +296,25 @@ impl Trouble {
                 call,
                 code,
             }),
-            3 => Some(Trouble::InUse),
+            3 if rest == 0 => Some(Trouble::InUse),
+            3 if rest == 1 => Some(Trouble::Removed),
+            3 => Some(Trouble::Replaced),
             _ if rest > 0 => {
                 let packed = rest - 1;
-                Some(Trouble::Refused(fault_of(packed / 64, packed % 8)?))
+                Some(Trouble::Refused(fault_of(packed / 128, packed % 8)?))
             }
             _ => None,
         }
     }
 }
 
-// Three numbers as one: below 8, below 8, and a code.
+// Three numbers as one: below 8, below 16, and a code.
 fn packed(low: u64, call: u64, code: u64) -> u64
     requires low { low ≤ 7 }
-    requires call { call ≤ 7 }
-    ensures { result < 274877906944 }
+    requires call { call ≤ 15 }
+    ensures { result < 549755813888 }
 {
-    low + 8 * call + 64 * (code % 4_294_967_296)
+    low + 8 * call + 128 * (code % 4_294_967_296)
 }
 
 // The number of a fault's kind, and that of the node or nodes that it names.
@@ -290,6 +335,7 @@ fn numbers_of(fault: Fault) -> (u64, u64)
         Fault::Outdated => (10, 0),
         Fault::LeftOut => (11, 0),
         Fault::Unfounded => (12, 0),
+        Fault::Replaced => (13, 0),
     }
 }
 
@@ -309,6 +355,7 @@ fn fault_of(kind: u64, detail: u64) -> Option<Fault> {
         10 => Some(Fault::Outdated),
         11 => Some(Fault::LeftOut),
         12 => Some(Fault::Unfounded),
+        13 => Some(Fault::Replaced),
         _ => None,
     }
 }
