@@ -1,16 +1,18 @@
 -- Folders that were read, one after another.
-use Rattle.std.proofs.Common.{◌≡◌, ◌∙◌, ℕ, zero, suc, ◌≤◌, Bool, true, false, List, [], ◌∷◌, ◌++◌, length, take, arith, sym, ap₂, subst}
+use Rattle.std.proofs.Common.{◌≡◌, ◌∙◌, ℕ, zero, suc, ◌+◌, ◌≤◌, Bool, true, false, List, [], ◌∷◌, ◌++◌, length, take, arith, refl, sym, ap, ap₂, subst}
 use Rattle.std.proofs.lemmas.Bool.{false≢true}
+use Rattle.std.proofs.Math.Seq.{take-append_seam}
 use Rattle.rr_stream.specs.Streams.{Printing}
 use Rattle.rr_words.specs.declared.tasks.Form.{Form}
 use Rattle.rr_folders.specs.Judged.{MayStart}
+use Rattle.rr_folders.specs.Sifts.{AreUsed, set_aside}
 use Rattle.rr_folders.specs.declared.verdict.Verdict.{Verdict}
 use Rattle.rr_folders.specs.Agreement.{Agree, HaveOneList, clashes_from}
 use Rattle.rr_folders.specs.Texts.{verdict_text}
 use Rattle.rr_cli.specs.Ends.{Prints, EndsOnVerification, verified, differing}
 use Rattle.std.specs.List.{AllByRecursion}
 use Rattle.rr_folders.specs.declared.verify_folder.Reading.{Reading}
-use Rattle.rr_cli.specs.Clusters.{IsRead, AreRead, form_in, unlike}
+use Rattle.rr_cli.specs.Clusters.{IsRead, AreRead, form_in, unlike, left_status}
 
 -- one more
 pub all_more : (rs : List Reading) (r : Reading) → AllByRecursion IsRead rs → IsRead r → AllByRecursion IsRead (rs ++ r ∷ [])
@@ -57,3 +59,20 @@ disagreed_ends form refused rs v text printing status old new read both exact is
 pub unlike_some : (printing : ℕ) → unlike printing ≡ 0 → ⊥
 unlike_some zero none = absurd cc
 unlike_some (suc n) none = absurd (omega (arith, none))
+
+-- an export that ends well has used each folder that holds facts
+pub left_well : (told : Bool) (status : ℕ) → left_status told status ≡ 0 → (told ≡ false) × (status ≡ 0)
+left_well true status well = absurd (unlike_some status well)
+left_well false status well = (refl, well)
+
+-- ---- folders that are used
+
+as_many : (w p : ℕ) (rs : List Reading) → length (set_aside w p rs) ≡ length rs
+as_many w p [] = refl
+as_many w p (r ∷ rs) = ap suc (as_many w (p + 1) rs)
+
+-- those that are used stand in the place of those that were read
+pub used_in_place : (before after rest : List Reading) (told : Bool) (n : ℕ) → AreUsed before after told → n ≡ length before → take n (after ++ rest) ≡ after
+used_in_place before after rest told n used is =
+    let same : length after ≡ length before = ap (λ (rs : List Reading). length rs) used.1 ∙ as_many used.0 0 before in
+    subst (λ (k : ℕ). take k (after ++ rest) ≡ after) (same ∙ sym is) (take-append_seam after rest)

@@ -3,7 +3,7 @@ use Rattle.std.proofs.Common.{◌≡◌, [], Option, subst}
 use Rattle.clap.specs.Words.{Text}
 use Rattle.clap.specs.Kinds.{Kinds, IsAmong}
 use Rattle.clap.specs.declared.error.kind.ErrorKind.{ErrorKind}
-use Rattle.rr_words.specs.Tasks.{CutWords, RandomWords, ShellWords, View, Simulate, Viewing, Show, Random, Audit, Run, Shell, Sweep, Draw, Migrate, Verify, Export}
+use Rattle.rr_words.specs.Tasks.{CutWords, RandomWords, ReplaceWords, ShellWords, View, Simulate, Viewing, Show, Random, Audit, Run, Shell, Sweep, Draw, Migrate, Replace, Verify, Export}
 use Rattle.rr_words.specs.declared.tasks.Exported.{Exported}
 use Rattle.rr_words.specs.declared.tasks.Form.{Form}
 
@@ -37,6 +37,9 @@ no_draw file words view is = absurd cc
 
 pub no_migrate : (folder seat nodes : Option Text) (view : View) → Migrate folder seat nodes ≡ Viewing view → ⊥
 no_migrate folder seat nodes view is = absurd cc
+
+pub no_replace : (words : ReplaceWords) (view : View) → Replace words ≡ Viewing view → ⊥
+no_replace words view is = absurd cc
 
 pub no_verify : (dir : Option Text) (form : Form) (view : View) → Verify dir form ≡ Viewing view → ⊥
 no_verify dir form view is = absurd cc

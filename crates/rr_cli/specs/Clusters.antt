@@ -1,5 +1,5 @@
 -- The folders of a cluster, as `rr verify` and `rr export` read them, and what an export is.
-use Rattle.std.specs.Prelude.{◌≡◌, ◌⊎◌, ℕ, zero, suc, ◌≤◌, List, [], ◌∷◌, ◌++◌, length, codes, decimal}
+use Rattle.std.specs.Prelude.{◌≡◌, ◌⊎◌, ℕ, zero, suc, ◌≤◌, Bool, true, false, List, [], ◌∷◌, ◌++◌, length, codes, decimal}
 use Rattle.std.specs.List.{AllByRecursion, flat_map}
 use Rattle.rr_types.specs.declared.refusal.Refusal.TheVariants.{Device}
 use Rattle.rr_types.specs.declared.command.Op.{Op}
@@ -23,6 +23,7 @@ use Rattle.rr_folders.specs.declared.fields.Form.TheVariants as forms
 use Rattle.rr_folders.specs.declared.verify_folder.Reading.{Reading}
 use Rattle.rr_folders.specs.declared.verify_folder.Reading.TheVariants.{Facts, Blank, Refused}
 use Rattle.rr_folders.specs.Folders.{reading_of}
+use Rattle.rr_folders.specs.Sifts.{AreUsed}
 use Rattle.rr_folders.specs.Exports.{export_of, commands_of}
 
 -- what was read of a folder: areas of some bytes; or it couldn't be read
@@ -40,10 +41,19 @@ pub record AreRead (readings : List Reading) : Type 0 where
   pub some : 1 ≤ length readings
   pub each : AllByRecursion IsRead readings
 
--- the status of folders that don't agree, by that of the printing
+-- the status of folders that don't agree, or of which some aren't used, by that of the printing
 abbrev pub unlike : ℕ → ℕ
 unlike zero = 4
 unlike (suc n) = suc n
+
+-- the status of an export, by whether a folder that holds facts wasn't used
+abbrev pub left_status : Bool → ℕ → ℕ
+left_status true status = unlike status
+left_status false status = status
+
+-- folders that are used of those of a cluster that were read, and whether one that holds facts isn't
+abbrev pub AreExported : List Reading → Bool → Type 0
+AreExported used told = (readings : List Reading) × AreRead readings × AreUsed readings used told
 
 -- how the form of the words is that of the fields
 abbrev pub form_in : Form → code.Form

@@ -34,7 +34,7 @@ use Rattle.rr_cli.specs.RandomObjects.{IsDrawnIn}
 use Rattle.rr_cli.specs.Cuts.{IsCutBy, shows_nothing}
 use Rattle.rr_lively.specs.declared.finish.Ending.{Ending}
 use Rattle.rr_cli.specs.Finishing.{finished_by, IsFinishedDraw}
-use Rattle.rr_words.specs.Tasks.{CutWords, RandomWords, ShellWords, View, Task, Simulate, Viewing, Show, Random, Audit, Run, Shell, Sweep, Draw, Migrate, Verify, Export}
+use Rattle.rr_words.specs.Tasks.{CutWords, RandomWords, ReplaceWords, ShellWords, View, Task, Simulate, Viewing, Show, Random, Audit, Run, Shell, Sweep, Draw, Migrate, Replace, Verify, Export}
 use Rattle.rr_words.specs.declared.tasks.Exported.{Exported}
 use Rattle.rr_words.specs.declared.tasks.Form.{Form}
 use Rattle.rr_words.specs.declared.tasks.Form.TheVariants.{Plain, Json}
@@ -42,7 +42,8 @@ use Rattle.rr_folders.specs.Judged.{MayStart}
 use Rattle.rr_folders.specs.declared.verify_folder.Reading as folder
 use Rattle.rr_folders.specs.Agreement.{Agree, AllAlike, HaveOneList, clashes_from, longest_decided}
 use Rattle.rr_folders.specs.Texts.{verdict_text}
-use Rattle.rr_cli.specs.Clusters.{AreRead, HoldsNothing, IsExportOf, form_in, unlike}
+use Rattle.rr_folders.specs.Sifts.{any_holds}
+use Rattle.rr_cli.specs.Clusters.{AreRead, AreExported, HoldsNothing, IsExportOf, form_in, unlike, left_status}
 use Rattle.rr_cli.specs.Migrations.{IsUnmigrated}
 use Rattle.rr_cli.specs.Refusals.{status_of}
 use Rattle.rr_cli.specs.Recognised.{IsScheduleText, IsTextOf, IsNoSchedule, IsNoTape}
@@ -264,19 +265,23 @@ pub data EndsOnVerification (form : Form) (refused : Bool) (status : ℕ) (old n
 abbrev pub EndsOnVerified : Form → ℕ → Printing → Printing → Type 0
 EndsOnVerified form status old new = (refused : Bool) × EndsOnVerification form refused status old new
 
--- the export of folders: no two decide an instance differently, and that of the longest decided list is printed; or two do; or
--- none holds facts and one is refused; or memory was wanting, or a program runs the cluster. Unless it is printed, standard output is as
--- it was
+-- the export of folders that are used: no two decide an instance differently, and that of the longest decided list is printed; or two do; or
+-- none holds facts and one is refused; or memory was wanting. Unless it is printed, standard output is as it was
+pub data EndsOnUsed (what : Exported) (used : List folder.Reading) (status : ℕ) (old new : Printing) : Type 0 where
+  exported : (text : List ℕ) → AllAlike used → IsExportOf what (longest_decided used) text → Prints text status old new
+      → EndsOnUsed what used status old new
+  clashing : (AllAlike used → ⊥) → status ≡ 4 → new ≡ old → EndsOnUsed what used status old new
+  unheld_by_all : (refusal : Refusal) → AllByRecursion HoldsNothing used → status ≡ status_of refusal → new ≡ old
+      → EndsOnUsed what used status old new
+  unexported : status ≡ 6 → new ≡ old → EndsOnUsed what used status old new
+
+-- the export of folders: of those that are used, with a status that tells whether one that holds facts isn't; or some aren't to be used, and the
+-- others are no majority; or memory was wanting, or a program runs the cluster, and standard output is as it was
 pub data EndsOnExport (what : Exported) (status : ℕ) (old new : Printing) : Type 0 where
-  exported : (readings : List folder.Reading) (text : List ℕ) → AreRead readings → AllAlike readings
-      → IsExportOf what (longest_decided readings) text → Prints text status old new
+  used_so : (used : List folder.Reading) (told : Bool) (ending : ℕ) → AreExported used told → EndsOnUsed what used ending old new
+      → status ≡ left_status told ending → EndsOnExport what status old new
+  unused : (readings : List folder.Reading) (without : ℕ) → AreRead readings → any_holds without 0 readings ≡ true → status ≡ 5 → new ≡ old
       → EndsOnExport what status old new
-  clashing : (readings : List folder.Reading) → AreRead readings → (AllAlike readings → ⊥) → status ≡ 4 → new ≡ old
-      → EndsOnExport what status old new
-  unheld_by_all : (readings : List folder.Reading) (refusal : Refusal) → AreRead readings → AllByRecursion HoldsNothing readings
-      → status ≡ status_of refusal → new ≡ old
-      → EndsOnExport what status old new
-  unexported : status ≡ 6 → new ≡ old → EndsOnExport what status old new
   not_locked : IsStreamStatus status → new ≡ old → EndsOnExport what status old new
 
 -- a run on the folder that a word names; or none is named, and standard output is as it was
@@ -360,4 +365,6 @@ pub data EndsBy (faults : Kinds) (task : Task) (from to : Readable) (status : �
       → status ≡ 2 → new ≡ old
       → EndsBy faults task from to status old new
   without_shell : (words : ShellWords) → faults ≡ [] → task ≡ Shell words → status ≡ 2 → new ≡ old
+      → EndsBy faults task from to status old new
+  without_nodes : (words : ReplaceWords) → faults ≡ [] → task ≡ Replace words → status ≡ 2 → new ≡ old
       → EndsBy faults task from to status old new

@@ -1,18 +1,23 @@
 //! `rr export`: what the folders of a cluster have decided, as a script or as a list, or as JSON.
 
-ghost use Rattle.std.specs.Prelude.{◌≡◌, ◌++◌, option_map, IfOk, IfSome, OnOk};
+ghost use Rattle.std.specs.Prelude.{◌≡◌, ◌≤◌, ◌++◌, false, length, option_map, IfOk, IfSome, OnOk};
 ghost use Rattle.std.specs.List.{AllByRecursion, flat_map};
 ghost use Rattle.std.specs.Io.KnownBytes.{Keeps};
 ghost use Rattle.rr_types.specs.declared.refusal.Refusal.TheVariants.{OutOfMemory};
-ghost use Rattle.rr_cli.specs.Ends.{EndsOnExport, EndsOnDir};
-ghost use Rattle.rr_cli.specs.Clusters.{AreRead, HoldsNothing, name_object, claim_object, IsExportOf};
+ghost use Rattle.rr_types.specs.Limits.{max_nodes};
+ghost use Rattle.rr_folders.specs.Judged.{MayStartWithout};
+ghost use Rattle.rr_cli.specs.Ends.{EndsOnExport, EndsOnUsed, EndsOnDir};
+ghost use Rattle.rr_cli.specs.Clusters.{AreRead, HoldsNothing, name_object, claim_object, left_status, IsExportOf};
 ghost use Rattle.rr_folders.specs.Agreement.{AllAlike, longest_decided};
 
 use crate::folder_faults::{end_by_unlocked, end_without_such};
-use crate::folders::{end_without_dir, print_folder_faults, read_folders};
+use crate::folders::{end_without_dir, print_folder_faults, read_sifted};
 use crate::refusals::end_by_refusal;
 use crate::streams::end_by_text;
-use rr_folders::{Lockable, Reading, decided_text, export, longest_decided, verify};
+use crate::verification::unlike;
+use rr_folders::{
+    Lockable, Reading, Sifted, decided_text, export, longest_decided, use_readings, verify,
+};
 use rr_json::{
     push_decided_objects, push_end, push_number_member, push_open, push_text_member,
     push_words_member,
@@ -22,6 +27,7 @@ use rr_text::ScriptLine;
 use rr_types::{Command, Name, Nodes, Op, Refusal, Value};
 use rr_words::Exported;
 use std::alloc::{AllocError, Global};
+use std::io;
 use std::io::Write;
 use std::os::unix::fs::FileExt;
 use std::rt::Files;
@@ -142,9 +148,8 @@ fn print_export<O: Sink, E: Write>(
     out: &mut O,
     err: &mut E,
 ) -> u8
-    requires read { AreRead readings.now }
-    requires alike { AllAlike readings.now }
-    ensures ends { EndsOnExport what result (O.printing out.old) (O.printing out.new) }
+    requires { AllAlike readings.now }
+    ensures ends { EndsOnUsed what readings.now result (O.printing out.old) (O.printing out.new) }
     ensures quiet { result ≡ 0 → Keeps (E.contents err.old) (E.contents err.new) }
 {
     match export_text(alloc, what, readings) {
@@ -153,7 +158,7 @@ fn print_export<O: Sink, E: Write>(
     }
 }
 
-// Exports what folders have decided that were read.
+// Exports what folders have decided that are used.
 fn export_readings<R: Files + AllocGlobal, O: Sink, E: Write>(
     rt: &R,
     dir: &str,
@@ -164,8 +169,7 @@ fn export_readings<R: Files + AllocGlobal, O: Sink, E: Write>(
 ) -> u8
 where
     R::File: FileExt,
-    requires { AreRead readings.now }
-    ensures ends { EndsOnExport what result (O.printing out.old) (O.printing out.new) }
+    ensures ends { EndsOnUsed what readings.now result (O.printing out.old) (O.printing out.new) }
     ensures quiet { result ≡ 0 → Keeps (E.contents err.old) (E.contents err.new) }
 {
     if let Some(refusal) = first_refusal(readings) {
@@ -196,8 +200,64 @@ fn end_by_clash<E: Write>(err: &mut E, dir: &str) -> u8
     4
 }
 
+// The status of an export, by whether a folder that holds facts wasn't used.
+fn left_status(is_told: bool, ending: u8) -> u8
+    ensures { result ≡ left_status is_told ending }
+{
+    if is_told { unlike(ending) } else { ending }
+}
+
+// Tells people which folders aren't used, a line each, behind a first one.
+fn tell_unused<E: Write>(err: &mut E, dir: &str, sifted: &Sifted) -> io::Result<()> {
+    writeln!(
+        err,
+        "rr: export: it is of the other folders in {dir}, as a start would refuse these:"
+    )?;
+    sifted.print(err, dir)
+}
+
+// Ends because folders aren't to be used, and the others are too few.
+fn end_by_unused<E: Write>(err: &mut E, dir: &str, sifted: &Sifted) -> u8
+    ensures { result ≡ 5 }
+{
+    let ending = end_by_refusal(err, &Refusal::Device);
+    let _ = sifted.print(err, dir);
+    ending
+}
+
+// Exports what folders have decided that were read, but those that a start would refuse.
+#[tactic(auto, using(crate::proofs::FolderLemmas::left_well))]
+fn export_sifted<R: Files + AllocGlobal, O: Sink, E: Write>(
+    rt: &R,
+    dir: &str,
+    what: Exported,
+    readings: Vec<Reading>,
+    sifted: &Sifted,
+    out: &mut O,
+    err: &mut E,
+) -> u8
+where
+    R::File: FileExt,
+    requires read { AreRead readings.items }
+    requires few { length readings.items ≤ max_nodes }
+    requires sifted { sifted.now.refused ≡ false → MayStartWithout (length readings.items) sifted.now.without }
+    ensures ends { EndsOnExport what result (O.printing out.old) (O.printing out.new) }
+    ensures quiet { result ≡ 0 → Keeps (E.contents err.old) (E.contents err.new) }
+{
+    let mut readings = readings;
+    let Some(is_told) = use_readings(sifted, readings.as_mut_slice()) else {
+        return end_by_unused(err, dir, sifted);
+    };
+    let ending = export_readings(rt, dir, what, readings.as_slice(), out, err);
+    if is_told {
+        let _ = tell_unused(err, dir, sifted);
+    }
+    left_status(is_told, ending)
+}
+
 /// Exports what the folders have decided in the folder that the word `dir` names: the registry of the longest decided list
-/// as a script, or the list, or one of them as JSON. The status is 4 where two folders decide an instance differently.
+/// as a script, or the list, or one of them as JSON. The status is 4 where two folders decide an instance differently, or where a folder that
+/// holds facts isn't used, as a start would refuse it.
 pub(crate) fn export_by_word<R: Files + AllocGlobal, O: Sink, E: Write>(
     rt: &R,
     dir: Option<&str>,
@@ -216,8 +276,8 @@ where
     if let Some(ending) = end_without_such(rt, err, dir) {
         return ending;
     }
-    match read_folders(rt, dir) {
-        Ok(readings) => export_readings(rt, dir, what, readings.as_slice(), out, err),
+    match read_sifted(rt, dir) {
+        Ok((readings, sifted)) => export_sifted(rt, dir, what, readings, &sifted, out, err),
         Err(closed) => end_by_unlocked(err, &closed),
     }
 }

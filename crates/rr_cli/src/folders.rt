@@ -2,13 +2,14 @@
 
 ghost use Rattle.std.specs.Prelude.{◌≡◌, ◌≤◌, length, false, IfOk};
 ghost use Rattle.std.specs.List.{AllByRecursion};
-ghost use Rattle.rr_folders.specs.Judged.{MayStart};
+ghost use Rattle.rr_types.specs.Limits.{max_nodes};
+ghost use Rattle.rr_folders.specs.Judged.{MayStart, MayStartWithout};
 ghost use Rattle.rr_cli.specs.Clusters.{IsRead, AreRead};
 
 use crate::folder_faults::print_folder_fault;
 use rr_folders::{
-    Closed, Judged, Lockable, Reading, Shares, judge_cluster, read_disk, read_only_disk,
-    share_cluster,
+    Closed, Judged, Lockable, Reading, Shares, Sifted, judge_cluster, read_disk, read_only_disk,
+    share_cluster, sift_cluster,
 };
 use rr_types::{MAX_NODES, Nodes, Refusal};
 use std::alloc::AllocError;
@@ -102,21 +103,25 @@ where
     Ok((readings, judged))
 }
 
-/// What is read of the folders of a cluster, as `read_judged` reads them.
+/// What is read of the folders of a cluster, as `read_judged` reads them, and which of them a start would refuse.
 ///
 /// # Errors
 /// `InUse`, where a program runs the cluster. `OutOfMemory`.
-pub(crate) fn read_folders<R: Files + AllocGlobal>(
+pub(crate) fn read_sifted<R: Files + AllocGlobal>(
     rt: &R,
     dir: &str,
-) -> Result<Vec<Reading>, Closed>
+) -> Result<(Vec<Reading>, Sifted), Closed>
 where
     R::File: FileExt + Lockable,
-    ensures { IfOk result (λ v. AreRead v.items) }
+    ensures read { IfOk result (λ r. AreRead r.0.items) }
+    ensures few { IfOk result (λ r. length r.0.items ≤ max_nodes) }
+    ensures sifted { IfOk result (λ r. r.1.refused ≡ false → MayStartWithout (length r.0.items) r.1.without) }
 {
     let shares = share_cluster(rt, dir, MAX_NODES)?;
-    let (readings, _) = read_shared(rt, &shares, dir)?;
-    Ok(readings)
+    let (readings, nodes) = read_shared(rt, &shares, dir)?;
+    let _count = nodes.count();
+    let sifted = sift_cluster(rt, &shares, nodes, dir)?;
+    Ok((readings, sifted))
 }
 
 /// Tells people why folders were refused, a line each.

@@ -45,6 +45,7 @@ mod folders;
 mod input;
 mod migrate;
 mod page;
+mod page_script;
 mod parts;
 mod picture;
 mod program;
@@ -52,6 +53,7 @@ mod random_objects;
 mod random_schedule;
 mod recognising;
 mod refusals;
+mod run_script;
 mod show;
 mod streams;
 mod sweep;
@@ -69,7 +71,9 @@ pub use random_schedule::{nodes_of, number_in};
 pub use refusals::{TextKind, end_by_fault, end_by_refusal, print_refusal, status};
 pub use rr_audit::audit_on;
 pub use rr_sim::{random_run, report_on};
-pub use rr_words::{CutWords, FinishView, Form, RandomWords, ShellWords, Task, View, read_words};
+pub use rr_words::{
+    CutWords, FinishView, Form, RandomWords, ReplaceWords, ShellWords, Task, View, read_words,
+};
 pub use show::{show_disk, show_disk_in};
 pub use streams::{end_by_stream, end_by_text, end_by_unprinted, end_without_words};
 pub use viewing::execute_with_views;

@@ -6,26 +6,38 @@ ghost use Rattle.rr_text.specs.Scheduled.{IsEvent};
 ghost use Rattle.rr_text.specs.ScheduleTexts.{event_line};
 ghost use Rattle.rr_cli.specs.Pages.{HasBoth, IsPageOf, IsTapePage};
 
-use crate::parts::{BACK, FRONT, MIDDLE};
+use crate::page_script::PAGE_SCRIPT;
+use crate::parts::{BACK, END, FRONT, MIDDLE};
+use crate::run_script::RUN_SCRIPT;
 use rr_account::{account_of_tape, account_on, page_data, tape_page_data};
 use rr_draw::{Cut, picture_of, push_script_data, tape_picture};
 use rr_stream::Sink;
 use rr_text::Tape;
 use rr_text::text_word::push_bytes;
 use rr_types::Refusal;
-use std::alloc::Global;
+use std::alloc::{AllocError, Global};
+
+// The page behind its picture, the same in all.
+fn back_of_all(alloc: Global) -> Result<Vec<u8>, AllocError> {
+    let mut back = Vec::from_slice(alloc, BACK)?;
+    back.extend_from_slice(RUN_SCRIPT)?;
+    back.extend_from_slice(PAGE_SCRIPT)?;
+    back.extend_from_slice(END)?;
+    Ok(back)
+}
 
 // The page that has these data and this picture.
 fn page_with(alloc: Global, objects: &[u8], picture: &[u8]) -> Result<Vec<u8>, Refusal>
     ensures ok { IfOk result (λ text. HasBoth objects.now picture.now text.items) }
     ensures err { IfErr result (λ e. e ≡ Refusal.OutOfMemory) }
 {
+    let back = back_of_all(alloc)?;
     let mut page = Vec::new(alloc);
     push_bytes(&mut page, FRONT)?;
     push_script_data(&mut page, objects)?;
     push_bytes(&mut page, MIDDLE)?;
     push_bytes(&mut page, picture)?;
-    push_bytes(&mut page, BACK)?;
+    push_bytes(&mut page, back.as_slice())?;
     Ok(page)
 }
 

@@ -18,8 +18,8 @@ use crate::random_schedule::random_by_words;
 use crate::refusals::{TextKind, end_by_fault};
 use crate::show::{end_without_folder, show_folder};
 use crate::streams::{
-    end_by_stream, end_by_text, end_without_shell, end_without_threads, end_without_views,
-    end_without_words,
+    end_by_stream, end_by_text, end_without_nodes, end_without_shell, end_without_threads,
+    end_without_views, end_without_words,
 };
 use crate::sweep::{end_without_seed, sweep_by_word, sweep_file};
 use crate::verification::verify_by_word;
@@ -143,6 +143,7 @@ where
         Ok(Task::Migrate(folder, node, nodes)) => {
             migrate_by_words(rt, folder, node, nodes, out, err)
         }
+        Ok(Task::Replace(_)) => end_without_nodes(err),
         Ok(Task::Verify(dir, form)) => verify_by_word(rt, dir, form, out, err),
         Ok(Task::Export(dir, what)) => export_by_word(rt, dir, what, out, err),
         Err(error) => end_by_words(rt.alloc(), out, err, &error),

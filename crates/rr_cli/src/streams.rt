@@ -84,3 +84,11 @@ pub(crate) fn end_without_shell<E: Write>(err: &mut E) -> u8
     let _ = writeln!(err, "rr: shell: there are no threads");
     2
 }
+
+// Ends because a program without threads is asked to replace a node.
+pub(crate) fn end_without_nodes<E: Write>(err: &mut E) -> u8
+    ensures { result ≡ 2 }
+{
+    let _ = writeln!(err, "rr: replace: there are no threads");
+    2
+}

@@ -31,8 +31,8 @@ fn form_in(form: Form) -> rr_folders::Form
     }
 }
 
-// The status of folders that don't agree, by that of the printing.
-fn unlike(printing: u8) -> u8
+/// The status of folders that don't agree, or of which some aren't used, by that of the printing.
+pub(crate) fn unlike(printing: u8) -> u8
     ensures { result ≡ unlike printing }
 {
     if printing == 0 { 4 } else { printing }

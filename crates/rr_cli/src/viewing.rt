@@ -50,6 +50,7 @@ where
         Ok(Task::Sweep(_, _)) => execute(rt, words, files, input, out, err),
         Ok(Task::Draw(_, _)) => execute(rt, words, files, input, out, err),
         Ok(Task::Migrate(_, _, _)) => execute(rt, words, files, input, out, err),
+        Ok(Task::Replace(_)) => execute(rt, words, files, input, out, err),
         Ok(Task::Verify(_, _)) => execute(rt, words, files, input, out, err),
         Ok(Task::Export(_, _)) => execute(rt, words, files, input, out, err),
         Err(error) => end_by_words(rt.alloc(), out, err, &error),

@@ -12,15 +12,15 @@ use Rattle.clap.specs.declared.parser.matches.ArgMatches.{ArgMatches}
 use Rattle.clap.specs.declared.parser.matches.ArgMatches.TheViews.{out-ArgMatches, out-SubCommand}
 use Rattle.clap.specs.declared.parser.matches.SubCommand.{SubCommand}
 use Rattle.clap.proofs.OnLiterals.{clap_on_literals}
-use Rattle.rr_words.specs.Lines.{and_also, asking_line, with_arg, with_version, audit_line, check_line, draw_line, export_line, migrate_line, numbers_line, random_line, rr_line, rr_settings, run_line, schedule_lines, shell_line, show_line, sim_line, stats_line, sweep_line, told_line, verify_line}
+use Rattle.rr_words.specs.Lines.{and_also, asking_line, with_arg, with_version, audit_line, check_line, draw_line, export_line, migrate_line, numbers_line, random_line, replace_line, rr_line, rr_settings, run_line, schedule_lines, shell_line, show_line, sim_line, stats_line, sweep_line, told_line, verify_line}
 use Rattle.rr_words.specs.Tasks.{Simulate, faults_of, found_in, task_by, task_of}
 
 is_simple_line : is_simple rr_line ≡ true
-unfolding clap_on_literals rr_line schedule_lines and_also with_arg with_version rr_settings told_line sim_line stats_line check_line show_line numbers_line random_line audit_line run_line asking_line shell_line sweep_line draw_line migrate_line verify_line export_line
+unfolding clap_on_literals rr_line schedule_lines and_also with_arg with_version rr_settings told_line sim_line stats_line check_line show_line numbers_line random_line audit_line run_line asking_line shell_line sweep_line draw_line migrate_line replace_line verify_line export_line
 is_simple_line = refl
 
 is_free_line : is_simple_and_free rr_line ≡ true
-unfolding clap_on_literals rr_line schedule_lines and_also with_arg with_version rr_settings told_line sim_line stats_line check_line show_line numbers_line random_line audit_line run_line asking_line shell_line sweep_line draw_line migrate_line verify_line export_line
+unfolding clap_on_literals rr_line schedule_lines and_also with_arg with_version rr_settings told_line sim_line stats_line check_line show_line numbers_line random_line audit_line run_line asking_line shell_line sweep_line draw_line migrate_line replace_line verify_line export_line
 is_free_line = refl
 
 -- what a parse by this command line found, or failed by

@@ -183,6 +183,17 @@ migrate_line =
     (number_rule (codes "NODE") (codes "node") 0 6))
     (number_rule (codes "NODES") (codes "nodes") 1 7)
 
+-- the subcommand replace, with a DIR, the number of a node, the nodes that are left down and the time between ticks, which may be left out, and
+-- the option for telling alone
+unfoldable pub replace_line : App
+replace_line =
+    with_arg (with_arg (with_arg (with_arg (with_arg (new_app (codes "replace"))
+    (word_rule (codes "DIR") true))
+    (number_rule (codes "NODE") (codes "node") 0 6))
+    without_rule)
+    tick_rule)
+    (flag_rule (codes "DRY") (codes "dry-run"))
+
 -- the subcommand verify, with a DIR and the option for JSON
 unfoldable pub verify_line : App
 verify_line = with_arg (with_arg (new_app (codes "verify")) (word_rule (codes "DIR") true)) (flag_rule (codes "JSON") (codes "json"))
@@ -216,5 +227,5 @@ schedule_lines =
 -- the command line of rr
 unfoldable pub rr_line : App
 rr_line =
-    and_also (and_also (and_also (and_also (and_also (and_also (and_also schedule_lines
-    run_line) shell_line) audit_line) show_line) verify_line) export_line) migrate_line
+    and_also (and_also (and_also (and_also (and_also (and_also (and_also (and_also schedule_lines
+    run_line) shell_line) audit_line) show_line) verify_line) export_line) migrate_line) replace_line

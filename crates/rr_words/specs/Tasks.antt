@@ -9,6 +9,7 @@ use Rattle.rr_words.specs.Lines.{rr_line}
 use Rattle.rr_words.specs.declared.tasks.CutWords as code_words
 use Rattle.rr_words.specs.declared.tasks.RandomWords as code_randoms
 use Rattle.rr_words.specs.declared.tasks.ShellWords as code_shells
+use Rattle.rr_words.specs.declared.tasks.ReplaceWords as code_replaces
 use Rattle.rr_words.specs.declared.tasks.FinishView.{FinishView}
 use Rattle.rr_words.specs.declared.tasks.FinishView.TheVariants as finished
 use Rattle.rr_words.specs.declared.tasks.Form.{Form}
@@ -65,6 +66,15 @@ pub record ShellWords : Type 0 where
   pub strict : Bool
   pub json : Bool
 
+-- the words of a replacement: the folder of the nodes' folders and the node, which only wrong words leave out; the nodes beside it that are
+-- left down, and the milliseconds between two ticks, which may be left out; and whether it is only told what would be done
+pub record ReplaceWords : Type 0 where
+  pub dir : Option Text
+  pub node : Option Text
+  pub without : Option Text
+  pub tick : Option Text
+  pub dry : Bool
+
 -- what is shown of the run of the schedule in a file or else in standard input: its report as JSON; or its report with events
 -- and reasons; or its finish; or its statistics, also where it is a tape; or where its report isn't the text in a second file or
 -- else in standard input; or what is shown of the tape there: its report with events and reasons, or its statistics
@@ -83,8 +93,8 @@ pub data View : Type 0 where
 -- in this file or none, so many milliseconds between two ticks, these nodes left down, and answers in this form; or a shell by
 -- these words; or a sweep of the schedule in this file or else in standard input, with this seed, which only wrong words leave out;
 -- or the picture of the schedule in this file or else in standard input, of the cut that these words write; or an opening of the
--- disk in this folder as that of this node of so many, all of which only wrong words leave out, and its areas then; or whether the
--- folders in this folder agree; or the registry that they have decided as a script, or else the decided list, or one of them as JSON
+-- disk in this folder as that of this node of so many, all of which only wrong words leave out, and its areas then; or a replacement by
+-- these words; or whether the folders in this folder agree; or the registry that they have decided as a script, or else the decided list, or one of them as JSON
 pub data Task : Type 0 where
   Simulate : Option Text → Task
   Viewing : View → Task
@@ -96,6 +106,7 @@ pub data Task : Type 0 where
   Sweep : Option Text → Option Text → Task
   Draw : Option Text → CutWords → Task
   Migrate : Option Text → Option Text → Option Text → Task
+  Replace : ReplaceWords → Task
   Verify : Option Text → Form → Task
   Export : Option Text → Exported → Task
 
@@ -147,7 +158,7 @@ told_task rows =
     if is_set (codes "EXPLAIN") rows then Viewing (Explanation (form_of rows) (file_of (first_of (codes "FILE") rows)))
     else told_by (form_of rows) (file_of (first_of (codes "FILE") rows))
 
--- what sim, stats, audit, check, random, run, shell, sweep, draw, migrate, verify and export ask for
+-- what sim, stats, audit, check, random, run, shell, sweep, draw, migrate, replace, verify and export ask for
 abbrev pub simulate_task : List Row → Task
 simulate_task rows =
     if is_set (codes "FINISH") rows || is_set (codes "ALONE") rows then Viewing (Finish (finish_view rows) (file_of (first_of (codes "FILE") rows)))
@@ -206,6 +217,20 @@ draw_task rows = Draw (file_of (first_of (codes "FILE") rows)) (cut_words_of row
 abbrev pub migrate_task : List Row → Task
 migrate_task rows = Migrate (first_of (codes "DIR") rows) (first_of (codes "NODE") rows) (first_of (codes "NODES") rows)
 
+-- the words of a replacement among these arguments
+abbrev pub replace_words_of : List Row → ReplaceWords
+replace_words_of rows =
+    record {
+      dir = first_of (codes "DIR") rows;
+      node = first_of (codes "NODE") rows;
+      without = first_of (codes "WITHOUT") rows;
+      tick = first_of (codes "TICK") rows;
+      dry = is_set (codes "DRY") rows;
+    }
+
+abbrev pub replace_task : List Row → Task
+replace_task rows = Replace (replace_words_of rows)
+
 abbrev pub verify_task : List Row → Task
 verify_task rows = Verify (first_of (codes "DIR") rows) (form_of rows)
 
@@ -234,9 +259,10 @@ other_task_by p =
     else (if bytes_eq p.0 (codes "sweep") then sweep_task p.1
     else (if bytes_eq p.0 (codes "draw") then draw_task p.1
     else (if bytes_eq p.0 (codes "migrate") then migrate_task p.1
+    else (if bytes_eq p.0 (codes "replace") then replace_task p.1
     else (if bytes_eq p.0 (codes "verify") then verify_task p.1
     else (if bytes_eq p.0 (codes "export") then export_task p.1
-    else simulate_task p.1))))))))))
+    else simulate_task p.1)))))))))))
 
 -- what a subcommand of this name and these arguments asks for
 abbrev pub task_by : Text × List Row → Task
@@ -287,6 +313,17 @@ shell_words_in words =
       json = words.json;
     }
 
+-- the words of a replacement that were read so
+abbrev pub replace_words_in : code_replaces.ReplaceWords → ReplaceWords
+replace_words_in words =
+    record {
+      dir = option_map (λ s. s.now) words.dir;
+      node = option_map (λ s. s.now) words.node;
+      without = option_map (λ s. s.now) words.without;
+      tick = option_map (λ s. s.now) words.tick;
+      dry = words.dry;
+    }
+
 -- what is shown that was read so
 abbrev pub view_in : view.View → View
 view_in (shown.Report file) = Report (option_map (λ s. s.now) file)
@@ -311,5 +348,6 @@ task_in (read.Shell words) = Shell (shell_words_in words)
 task_in (read.Sweep file seed) = Sweep (option_map (λ s. s.now) file) (option_map (λ s. s.now) seed)
 task_in (read.Draw file words) = Draw (option_map (λ s. s.now) file) (cut_words_in words)
 task_in (read.Migrate folder node nodes) = Migrate (option_map (λ s. s.now) folder) (option_map (λ s. s.now) node) (option_map (λ s. s.now) nodes)
+task_in (read.Replace words) = Replace (replace_words_in words)
 task_in (read.Verify folder form) = Verify (option_map (λ s. s.now) folder) form
 task_in (read.Export folder list) = Export (option_map (λ s. s.now) folder) list

@@ -155,6 +155,25 @@ Examples:
   rr migrate /tmp/nodes/0 --node 0 --nodes 3 && rr show /tmp/nodes/0"
 }
 
+/// The help of `rr replace`.
+pub(crate) fn replace<'a>() -> &'a str {
+    "\
+DIR is the folder of a cluster, of which node P has lost its disk for good. More than half of the
+nodes have to be left, with whole folders, and no other program may have them open. They are run
+without P until they have decided eight instances above the highest of which their folders keep
+anything: all in which P can have had a say. Then P gets a new folder with these decisions alone,
+and may be started. What stood at DIR/P is moved aside, as DIR/P.replaced-1, and never deleted. It
+isn't opened any more if it is put back. Printed is `node P replaced: N decided commands`, and
+`moved aside: ` with the path. Interrupted, it is given again. With --without other nodes stay down
+whose disks are lost too: they are replaced one after another. With --dry-run nothing is written,
+and printed is `node P would be replaced: N decided commands, M more to decide`. The status is 8 if
+no command is decided for a minute, or if the list has no room for so many.
+
+Examples:
+  rr replace /tmp/nodes --node 1 --dry-run
+  rr replace /tmp/nodes --node 1 && rr verify /tmp/nodes"
+}
+
 /// The help of `rr random`.
 pub(crate) fn random<'a>() -> &'a str {
     "\
@@ -211,19 +230,19 @@ Each line of standard input is a command, which is answered before the next is r
 `claim NAME [VALUE]`, `update NAME [VALUE]`, `release NAME`, `transfer NAME OWNER`, `look NAME`,
 `list [PREFIX]`, `watch [PREFIX]`, `sync`, `at NODE`, `stop NODE`, `start NODE`, `snapshot NODE`,
 `status`, `again`, `help [COMMAND]`, `quit` or `exit`. Spaces and tabs divide words. Without VALUE
-the value is empty, and `help COMMAND` has an example. Node 0 is asked first, and from `at NODE` on
-that node. The answers are `claimed`, `updated`, `released`, `transferred`, `taken OWNER`,
-`unknown`, `notowner`, `full`, `unacknowledged` or `full list: ` and a text; to a look `NAME free`,
-`NAME bound OWNER VALUE` or `NAME unseen`; to a list `list COUNT` and a line as a look's for each
-bound name that begins with PREFIX; to a watch `watching`, and until the next line
-`changed NAME bound OWNER VALUE` or `freed NAME` for each change of these names; to a sync `synced`;
-to a status a line for each node; else `error: ` and what is expected. With --json each of these
-lines is an object of JSON. A look or a list answers from what the node that is asked has seen.
-Behind `synced` it has all that was acknowledged at any node before that line was read. `again` asks
-the last command that was unacknowledged once more, under its request number, so that it counts
-once. A node that is stopped goes down as by a crash, and opens its folder when it is started. Each
-node runs in threads over the folder DIR/P, as in `rr run`. The file DIR/requests keeps request
-numbers unique from one start to the next.
+the value is empty, and `help COMMAND` has an example. Node 0, or else the first that is not left
+out, is asked first, and from `at NODE` on that node. The answers are `claimed`, `updated`,
+`released`, `transferred`, `taken OWNER`, `unknown`, `notowner`, `full`, `unacknowledged` or
+`full list: ` and a text; to a look `NAME free`, `NAME bound OWNER VALUE` or `NAME unseen`; to a
+list `list COUNT` and a line as a look's for each bound name that begins with PREFIX; to a watch
+`watching`, and until the next line `changed NAME bound OWNER VALUE` or `freed NAME` for each
+change of these names; to a sync `synced`; to a status a line for each node; else `error: ` and
+what is expected. With --json each of these lines is an object of JSON. A look or a list answers
+from what the node that is asked has seen. Behind `synced` it has all that was acknowledged at any
+node before that line was read. `again` asks the last command that was unacknowledged once more,
+under its request number, so that it counts once. A node that is stopped goes down as by a crash,
+and opens its folder when it is started. Each node runs in threads over the folder DIR/P, as in
+`rr run`. The file DIR/requests keeps request numbers unique from one start to the next.
 
 With --without a cluster starts though a disk is broken: the nodes that are named are down, as by
 `stop`, and their folders are neither opened nor touched before `start`. More than half of the nodes

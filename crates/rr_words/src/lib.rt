@@ -23,4 +23,6 @@ mod tasks;
 
 pub use lines::{LAST_CLIENT, LAST_LINE, LEAST_TICK, MAX_FAULTS, MAX_STEPS, MOST_TICK};
 pub use reading::read_words;
-pub use tasks::{CutWords, Exported, FinishView, Form, RandomWords, ShellWords, Task, View};
+pub use tasks::{
+    CutWords, Exported, FinishView, Form, RandomWords, ReplaceWords, ShellWords, Task, View,
+};

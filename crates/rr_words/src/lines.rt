@@ -2,7 +2,7 @@
 
 ghost use Rattle.std.specs.Prelude.{◌≡◌, IfOk, codes};
 ghost use Rattle.clap.specs.Words.{App, app_of, new_app};
-ghost use Rattle.rr_words.specs.Lines.{IsArg, IsLine, and_also, rr_line, schedule_lines, rr_settings, with_version, named_rule, told_line, sim_line, stats_line, check_line, show_line, migrate_line, word_rule, number_rule, option_rule, optional_number_rule, flag_rule, tick_rule, without_rule, numbers_line, random_line, audit_line, run_line, lines_rule, asking_line, shell_line, sweep_line, draw_line, verify_line, export_line};
+ghost use Rattle.rr_words.specs.Lines.{IsArg, IsLine, and_also, rr_line, schedule_lines, rr_settings, with_version, named_rule, told_line, sim_line, stats_line, check_line, show_line, migrate_line, replace_line, word_rule, number_rule, option_rule, optional_number_rule, flag_rule, tick_rule, without_rule, numbers_line, random_line, audit_line, run_line, lines_rule, asking_line, shell_line, sweep_line, draw_line, verify_line, export_line};
 
 use crate::helps;
 use clap::builder::ValueParser;
@@ -37,7 +37,8 @@ pub(crate) fn command_line<'a>(alloc: Global) -> Result<Command<'a>, AllocError>
     let line = with_line(line, show_line(alloc))?;
     let line = with_line(line, verify_line(alloc))?;
     let line = with_line(line, export_line(alloc))?;
-    with_line(line, migrate_line(alloc))
+    let line = with_line(line, migrate_line(alloc))?;
+    with_line(line, replace_line(alloc))
 }
 
 // The command line with the subcommands on schedules.
@@ -563,4 +564,26 @@ fn migrate_line<'a>(alloc: Global) -> Result<Command<'a>, AllocError>
     .arg(word_arg(alloc, "DIR", "The folder of the node", true))?
     .arg(number_arg(alloc, "NODE", "node", "Which node it is", 0, 6))?
     .arg(number_arg(alloc, "NODES", "nodes", "How many nodes there are", 1, 7))
+}
+
+// The command line of `rr replace`.
+fn replace_line<'a>(alloc: Global) -> Result<Command<'a>, AllocError>
+    ensures { IfOk result (IsLine replace_line) }
+{
+    bare_line(
+        alloc,
+        "replace",
+        "Gives a node whose disk is lost a new folder, by what the others have decided",
+        helps::replace(),
+    )
+    .arg(word_arg(alloc, "DIR", "The folder of the nodes' folders", true))?
+    .arg(number_arg(alloc, "NODE", "node", "Which node's disk is lost", 0, 6))?
+    .arg(without_arg(alloc))?
+    .arg(tick_arg(alloc))?
+    .arg(flag_arg(
+        alloc,
+        "DRY",
+        "dry-run",
+        "Tells what would be done, and does nothing",
+    ))
 }

@@ -2,7 +2,7 @@
 
 ghost use Rattle.std.specs.Prelude.{◌≡◌, [], IfOk, map, option_map, unwrap_or};
 ghost use Rattle.clap.specs.Words.{all_of, first_of, found_of, rows_of};
-ghost use Rattle.rr_words.specs.Tasks.{file_of, is_set, form_of, cut_words_of, cut_words_in, finish_view, simulate_task, told_task, stats_task, audit_task, check_task, random_task, run_task, shell_task, sweep_task, draw_task, migrate_task, other_task_by, task_by, task_in, verify_task, export_of, export_task};
+ghost use Rattle.rr_words.specs.Tasks.{file_of, is_set, form_of, cut_words_of, cut_words_in, finish_view, simulate_task, told_task, stats_task, audit_task, check_task, random_task, run_task, shell_task, sweep_task, draw_task, migrate_task, replace_words_of, replace_words_in, other_task_by, task_by, task_in, verify_task, export_of, export_task};
 
 use clap::ArgMatches;
 use std::alloc::{AllocError, Global};
@@ -66,6 +66,21 @@ pub struct ShellWords<'a> {
     pub strict: bool,
     /// Whether it answers with JSON.
     pub json: bool,
+}
+
+/// The words of a replacement.
+#[derive(Clone, Copy, Debug, PartialEq, Eq)]
+pub struct ReplaceWords<'a> {
+    /// The folder of the nodes' folders.
+    pub dir: Option<&'a str>,
+    /// The node that is replaced.
+    pub node: Option<&'a str>,
+    /// The nodes beside it that are left down.
+    pub without: Option<&'a str>,
+    /// How many milliseconds are between two ticks of a node.
+    pub tick: Option<&'a str>,
+    /// Whether it is only told what would be done.
+    pub dry: bool,
 }
 
 /// How something is printed.
@@ -160,6 +175,9 @@ pub enum Task<'a> {
     /// `rr migrate DIR --node NODE --nodes NODES`: an opening of the disk in this folder, and what its areas hold then.
     /// The disk is that of node NODE of NODES nodes.
     Migrate(Option<&'a str>, Option<&'a str>, Option<&'a str>),
+    /// `rr replace DIR --node NODE [--without NODES] [--tick MILLISECONDS] [--dry-run]`: a new folder for this node of the cluster in this
+    /// folder, with the decisions of the others.
+    Replace(ReplaceWords<'a>),
     /// `rr verify DIR [--json]`: whether the nodes' folders in this folder agree, and what each of them holds.
     Verify(Option<&'a str>, Form),
     /// `rr export DIR [--list] [--json]`: the registry that the nodes' folders in this folder have decided, as a script; or else the
@@ -387,6 +405,21 @@ fn migrate_task<'a>(matches: &ArgMatches<'a>) -> Task<'a>
     )
 }
 
+// The words of a replacement among the arguments of `rr replace`.
+fn replace_words<'a>(matches: &ArgMatches<'a>) -> ReplaceWords<'a>
+    ensures { replace_words_in result ≡ replace_words_of (rows_of (found_of matches.now)) }
+{
+    let (dir, node) = (word_of(matches, "DIR"), word_of(matches, "NODE"));
+    let (without, tick) = (word_of(matches, "WITHOUT"), word_of(matches, "TICK"));
+    ReplaceWords {
+        dir,
+        node,
+        without,
+        tick,
+        dry: is_set(matches, "DRY"),
+    }
+}
+
 // What `rr verify` is asked for.
 fn verify_task<'a>(matches: &ArgMatches<'a>) -> Task<'a>
     ensures { task_in result ≡ verify_task (rows_of (found_of matches.now)) }
@@ -435,6 +468,8 @@ fn other_task<'a>(name: &str, matches: &ArgMatches<'a>) -> Task<'a>
         draw_task(matches)
     } else if name == "migrate" {
         migrate_task(matches)
+    } else if name == "replace" {
+        Task::Replace(replace_words(matches))
     } else if name == "verify" {
         verify_task(matches)
     } else if name == "export" {

@@ -4,7 +4,7 @@ use Rattle.rr_cli.proofs.exporting.export_by_word.Goals as goal
 
 pub returns-in-Ok-clause-ends : goal.returns-in-Ok-clause-ends
 returns-in-Ok-clause-ends g c =
-    named c.in-Some.dir.now (ap (option_map (λ (s : Bor (List ℕ)). s.now)) c.in-Some.is) c.export_readings.ensures.ends
+    named c.in-Some.dir.now (ap (option_map (λ (s : Bor (List ℕ)). s.now)) c.in-Some.is) c.export_sifted.ensures.ends
 
 pub returns-in-Err-clause-ends : goal.returns-in-Err-clause-ends
 returns-in-Err-clause-ends g c =

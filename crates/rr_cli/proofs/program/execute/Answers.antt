@@ -1,8 +1,8 @@
 use Rattle.std.proofs.Common.{◌≡◌, ◌∙◌, ℕ, List, Option, option_map, Bor, refl, sym, ap, map, None, Some, inl, inr}
 use Rattle.clap.specs.Words.{Text, kind_of}
 use Rattle.rr_words.specs.declared.tasks.Task.TheVariants as read
-use Rattle.rr_words.specs.Tasks.{Simulate, Viewing, Show, Random, Audit, Run, Shell, Sweep, Draw, Migrate, cut_words_in, random_words_in, shell_words_in, view_in, task_of, task_in, Verify, Export}
-use Rattle.rr_cli.specs.Ends.{mistaken, by_help, by_version, out_of_memory, by_standard_input, by_file, by_folder, without_folder, by_numbers, by_migration, by_tape_in_standard_input, by_tape_in_a_file, by_sweep_of_standard_input, by_sweep_of_a_file, by_picture_of_standard_input, by_picture_of_a_file, without_seed, without_views, without_threads, without_shell, by_verification, by_export}
+use Rattle.rr_words.specs.Tasks.{Simulate, Viewing, Show, Random, Audit, Run, Shell, Sweep, Draw, Migrate, Replace, cut_words_in, random_words_in, replace_words_in, shell_words_in, view_in, task_of, task_in, Verify, Export}
+use Rattle.rr_cli.specs.Ends.{mistaken, by_help, by_version, out_of_memory, by_standard_input, by_file, by_folder, without_folder, by_numbers, by_migration, by_tape_in_standard_input, by_tape_in_a_file, by_sweep_of_standard_input, by_sweep_of_a_file, by_picture_of_standard_input, by_picture_of_a_file, without_seed, without_views, without_threads, without_shell, without_nodes, by_verification, by_export}
 use Rattle.rr_cli.proofs.EndLemmas.{kind_cases}
 use Rattle.rr_cli.proofs.program.execute.Goals as goal
 
@@ -87,6 +87,12 @@ returns-in-Ok-Shell-clause-ends g c =
     let w = c.in-Ok-Shell in
     let task : task_of (map g.S.AsStr.text c.args.words.now) ≡ Shell (shell_words_in w.field-0-0) = sym w.ensures.task ∙ ap task_in w.field-0-is in
     without_shell (shell_words_in w.field-0-0) w.ensures.faults task c.end_without_shell.ensures refl
+
+pub returns-in-Ok-Replace-clause-ends : goal.returns-in-Ok-Replace-clause-ends
+returns-in-Ok-Replace-clause-ends g c =
+    let w = c.in-Ok-Replace in
+    let task : task_of (map g.S.AsStr.text c.args.words.now) ≡ Replace (replace_words_in w.field-0-0) = sym w.ensures.task ∙ ap task_in w.field-0-is in
+    without_nodes (replace_words_in w.field-0-0) w.ensures.faults task c.end_without_nodes.ensures refl
 
 -- the task that a file and a seed make
 swept_from : (a b x y : Option (Bor (List ℕ))) → a ≡ x → b ≡ y → task_in (read.Sweep a b) ≡ task_in (read.Sweep x y)

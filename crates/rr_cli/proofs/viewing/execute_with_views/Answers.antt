@@ -1,10 +1,10 @@
 use Rattle.std.proofs.Common.{◌≡◌, ◌∙◌, ℕ, List, Option, option_map, Bor, sym, ap, map, inl, inr}
 use Rattle.clap.specs.Words.{Text, kind_of}
-use Rattle.rr_words.specs.Tasks.{Simulate, Viewing, Show, Random, Audit, Run, Shell, Sweep, Draw, Migrate, cut_words_in, random_words_in, shell_words_in, task_of, task_in, view_in, Verify, Export}
+use Rattle.rr_words.specs.Tasks.{Simulate, Viewing, Show, Random, Audit, Run, Shell, Sweep, Draw, Migrate, Replace, cut_words_in, random_words_in, replace_words_in, shell_words_in, task_of, task_in, view_in, Verify, Export}
 use Rattle.rr_cli.specs.Ends.{mistaken, by_help, by_version}
 use Rattle.rr_cli.proofs.EndLemmas.{kind_cases}
 use Rattle.rr_cli.specs.Views.{by_view, by_others, out_of_memory}
-use Rattle.rr_cli.proofs.WordLaws.{none_among, no_simulate, no_show, no_random, no_audit, no_run, no_shell, no_sweep, no_draw, no_migrate, no_verify, no_export}
+use Rattle.rr_cli.proofs.WordLaws.{none_among, no_simulate, no_show, no_random, no_audit, no_run, no_shell, no_sweep, no_draw, no_migrate, no_replace, no_verify, no_export}
 use Rattle.rr_cli.proofs.viewing.execute_with_views.Goals as goal
 
 -- the text of a word
@@ -82,6 +82,12 @@ returns-in-Ok-Migrate-clause-ends g c =
     let w = c.in-Ok-Migrate in
     let task : task_of (map g.S.AsStr.text c.args.words.now) ≡ Migrate (text_of w.field-0-0) (text_of w.field-0-1) (text_of w.field-0-2) = sym w.ensures.task ∙ ap task_in w.field-0-is in
     by_others (λ none view is. no_migrate (text_of w.field-0-0) (text_of w.field-0-1) (text_of w.field-0-2) view (sym task ∙ is)) c.execute-in-Ok-Migrate.ensures.ends
+
+pub returns-in-Ok-Replace-clause-ends : goal.returns-in-Ok-Replace-clause-ends
+returns-in-Ok-Replace-clause-ends g c =
+    let w = c.in-Ok-Replace in
+    let task : task_of (map g.S.AsStr.text c.args.words.now) ≡ Replace (replace_words_in w.field-0-0) = sym w.ensures.task ∙ ap task_in w.field-0-is in
+    by_others (λ none view is. no_replace (replace_words_in w.field-0-0) view (sym task ∙ is)) c.execute-in-Ok-Replace.ensures.ends
 
 pub returns-in-Ok-Verify-clause-ends : goal.returns-in-Ok-Verify-clause-ends
 returns-in-Ok-Verify-clause-ends g c =
