@@ -10,7 +10,7 @@ use Rattle.rr_shell.specs.declared.shell_line.LineFault.{LineFault}
 use Rattle.rr_shell.specs.Texts.{answer_line, synced_line, list_lines, watching_line, changed_line, freed_line, late_line, late_text, move_line, stop_line, start_line, snapshot_line, trouble_line, trouble_text, status_line, help_lines, help_text, fault_line, fault_text, used_text, full_text, nothing_text}
 use Rattle.rr_types.specs.declared.command.Command.{Command}
 use Rattle.rr_shell.specs.declared.outcome.Outcome.{Outcome}
-use Rattle.rr_shell.specs.declared.outcome.Outcome.TheVariants.{Answered, ListFull, Used, Nothing}
+use Rattle.rr_shell.specs.declared.outcome.Outcome.TheVariants.{Answered, ListFull, Used, Nothing, Whole}
 use Rattle.rr_json.specs.Json.{escaped_byte}
 use Rattle.rr_explain.specs.declared.shell_word.ShellWord.{ShellWord}
 use Rattle.rr_shell.specs.Objects.{answer_object, synced_object, list_objects, watching_object, changed_object, freed_object, node_object, status_object, text_object}
@@ -31,16 +31,17 @@ used_said json c = if json then text_object (codes "error") (flat_map escaped_by
 abbrev pub nothing_said : Bool → List ℕ
 nothing_said json = if json then text_object (codes "error") nothing_text else codes "error: " ++ nothing_text ++ 10 ∷ []
 
--- what comes of a submit
+-- that a node has learned what was acknowledged anywhere
+abbrev pub synced_said : Bool → List ℕ
+synced_said json = if json then synced_object else synced_line
+
+-- what comes of a submit; of a sync a full list too, of which the node has published all
 abbrev pub outcome_said : Bool → Outcome → List ℕ
 outcome_said json (Answered a) = answer_said json a
 outcome_said json ListFull = full_said json
 outcome_said json (Used c) = used_said json c
 outcome_said json Nothing = nothing_said json
-
--- that a node has learned what was acknowledged anywhere
-abbrev pub synced_said : Bool → List ℕ
-synced_said json = if json then synced_object else synced_line
+outcome_said json Whole = synced_said json
 
 -- what comes of a sync: that it is done, where its command is acknowledged, whatever the reply; else what comes of a submit
 abbrev pub sync_said : Bool → Outcome → List ℕ

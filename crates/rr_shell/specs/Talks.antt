@@ -58,6 +58,7 @@ IsOf q (outcome.Answered a) = request_of a ≡ Some q
 IsOf q outcome.ListFull = Unit {0}
 IsOf q (outcome.Used other) = other.request ≡ q
 IsOf q outcome.Nothing = ⊥
+IsOf q outcome.Whole = ⊥
 
 -- what is kept to be asked again behind a submit of this operation: the command with the request number of the answer where
 -- that isn't acknowledged; else nothing
@@ -71,8 +72,10 @@ abbrev pub IsAskedAgain : Option Command → Option Command → Outcome → Type
 IsAskedAgain None kept o = (o ≡ outcome.Nothing) × (kept ≡ None)
 IsAskedAgain (Some c) kept o = IsOf c.request o × IsKept c.op kept o
 
--- what may come of a sync by client c at node p: it came of a submit of a request of this client there
+-- what may come of a sync by client c at node p: that the list is full, and all of it published; or it came of a submit of a request of this
+-- client there
 abbrev pub IsSyncBy : ℕ → ℕ → Outcome → Type 0
+IsSyncBy c p outcome.Whole = Unit {0}
 IsSyncBy c p o = (q : RequestNo) × (q.client ≡ c) × IsOf q o × (is_outcome_at p o ≡ true)
 
 -- whether an answer is node p's to a look at this name
@@ -173,30 +176,33 @@ IsTurn Did json n p w from to old new (Some turn) =
 abbrev pub ending_trouble : Bool → Option Trouble → Option Trouble
 ending_trouble strict trouble = if strict then trouble else None
 
--- a talk so far, from an input and an output on: the node that is asked now, what is watched, and the input and the output as they are
--- now. The nodes were waited for before. Each line is answered, and the answer flushed, before the next is read
-pub data Talk (Did : Deed → Type 0) (json strict : Bool) (n : ℕ) (from : Reading) (old : Printing) : ℕ → Option Watched → Reading → Printing → Type 0 where
-  begun : Did waits → Talk Did json strict n from old 0 None from old
-  said : {p : ℕ} {w : Option Watched} {r s : Reading} {a b : Printing} → Talk Did json strict n from old p w r a → (turn : Turn)
+-- a talk so far that begins at a node, from an input and an output on: the node that is asked now, what is watched, and the input and the
+-- output as they are now. The nodes were waited for before. Each line is answered, and the answer flushed, before the next is read
+pub data Talk (Did : Deed → Type 0) (json strict : Bool) (n first : ℕ) (from : Reading) (old : Printing)
+    : ℕ → Option Watched → Reading → Printing → Type 0 where
+  begun : Did waits → Talk Did json strict n first from old first None from old
+  said : {p : ℕ} {w : Option Watched} {r s : Reading} {a b : Printing} → Talk Did json strict n first from old p w r a → (turn : Turn)
       → IsTurn Did json n p w r s a b (Some turn) → ending_trouble strict turn.trouble ≡ None
-      → Talk Did json strict n from old turn.node turn.watched s b
+      → Talk Did json strict n first from old turn.node turn.watched s b
 
 -- a talk that is over: by a line that asks for that, or by the input; or by a line that wasn't answered as it asked, with the trouble
-pub data HasTalked (Did : Deed → Type 0) (json strict : Bool) (n : ℕ) (from to : Reading) (old new : Printing) : Option Trouble → Type 0 where
-  over : {p : ℕ} {w : Option Watched} {r : Reading} {a : Printing} → Talk Did json strict n from old p w r a → IsTurn Did json n p w r to a new None
-      → HasTalked Did json strict n from to old new None
-  in_trouble : {p : ℕ} {w : Option Watched} {r : Reading} {a : Printing} → Talk Did json strict n from old p w r a
+pub data HasTalked (Did : Deed → Type 0) (json strict : Bool) (n first : ℕ) (from to : Reading) (old new : Printing)
+    : Option Trouble → Type 0 where
+  over : {p : ℕ} {w : Option Watched} {r : Reading} {a : Printing} → Talk Did json strict n first from old p w r a
+      → IsTurn Did json n p w r to a new None
+      → HasTalked Did json strict n first from to old new None
+  in_trouble : {p : ℕ} {w : Option Watched} {r : Reading} {a : Printing} → Talk Did json strict n first from old p w r a
       → (turn : Turn) (trouble : Trouble) → IsTurn Did json n p w r to a new (Some turn)
       → ending_trouble strict turn.trouble ≡ Some trouble
-      → HasTalked Did json strict n from to old new (Some trouble)
+      → HasTalked Did json strict n first from to old new (Some trouble)
 
 -- a talk that is broken off: before it begins; or a front of what a turn prints may have been printed
-pub data BreaksOff (Did : Deed → Type 0) (json strict : Bool) (n : ℕ) (from : Reading) (old new : Printing) : Type 0 where
-  early : new ≡ old → BreaksOff Did json strict n from old new
-  late : {p : ℕ} {w : Option Watched} {r : Reading} {a : Printing} → Talk Did json strict n from old p w r a → IsFrontSaid a new
-      → BreaksOff Did json strict n from old new
+pub data BreaksOff (Did : Deed → Type 0) (json strict : Bool) (n first : ℕ) (from : Reading) (old new : Printing) : Type 0 where
+  early : new ≡ old → BreaksOff Did json strict n first from old new
+  late : {p : ℕ} {w : Option Watched} {r : Reading} {a : Printing} → Talk Did json strict n first from old p w r a → IsFrontSaid a new
+      → BreaksOff Did json strict n first from old new
 
--- a talk: over, or broken off
-abbrev pub Talks : (Deed → Type 0) → Bool → Bool → ℕ → Reading → Reading → Printing → Printing → Result (Option Trouble) breaks.Stop → Type 0
-Talks Did json strict n from to old new (Ok trouble) = HasTalked Did json strict n from to old new trouble
-Talks Did json strict n from to old new (Err stop) = BreaksOff Did json strict n from old new
+-- a talk that begins at a node of n: over, or broken off
+abbrev pub Talks : (Deed → Type 0) → Bool → Bool → ℕ → ℕ → Reading → Reading → Printing → Printing → Result (Option Trouble) breaks.Stop → Type 0
+Talks Did json strict n first from to old new (Ok trouble) = HasTalked Did json strict n first from to old new trouble
+Talks Did json strict n first from to old new (Err stop) = BreaksOff Did json strict n first from old new

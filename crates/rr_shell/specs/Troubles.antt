@@ -35,6 +35,7 @@ outcome_trouble (outcome.Answered a) = answer_trouble a
 outcome_trouble outcome.ListFull = Some ListFull
 outcome_trouble (outcome.Used c) = Some Error
 outcome_trouble outcome.Nothing = Some Error
+outcome_trouble outcome.Whole = None
 
 -- why what comes of a sync isn't what its line asked for; none where its command is acknowledged, whatever the reply
 abbrev pub sync_trouble : Outcome → Option Trouble

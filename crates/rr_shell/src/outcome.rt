@@ -21,6 +21,8 @@ pub enum Outcome {
     Used(Command),
     /// Nothing is unacknowledged, so nothing is asked again.
     Nothing,
+    /// The list is full, and the node that was asked to sync has published all of it.
+    Whole,
 }
 
 #[tactic(auto, unfolding(crate::specs::Texts::numbered_text))]

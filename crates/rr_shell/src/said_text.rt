@@ -79,6 +79,17 @@ fn say_nothing(out: &mut Vec<u8>, json: bool) -> Result<(), AllocError>
     push_byte(out, b'\n')
 }
 
+// Appends that a node has learned what was acknowledged anywhere.
+fn say_synced(out: &mut Vec<u8>, json: bool) -> Result<(), AllocError>
+    ensures ok { OnOk result (out.new.items ≡ out.old.items ++ synced_said json) }
+{
+    if json {
+        push_synced_object(out)
+    } else {
+        push_synced(out)
+    }
+}
+
 /// Appends what came of a submit.
 ///
 /// # Errors
@@ -96,17 +107,7 @@ pub fn say_outcome(
         Outcome::ListFull => say_full(out, json),
         Outcome::Used(command) => say_used(alloc, out, json, command),
         Outcome::Nothing => say_nothing(out, json),
-    }
-}
-
-// Appends that a node has learned what was acknowledged anywhere.
-fn say_synced(out: &mut Vec<u8>, json: bool) -> Result<(), AllocError>
-    ensures ok { OnOk result (out.new.items ≡ out.old.items ++ synced_said json) }
-{
-    if json {
-        push_synced_object(out)
-    } else {
-        push_synced(out)
+        Outcome::Whole => say_synced(out, json),
     }
 }
 

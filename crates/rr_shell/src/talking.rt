@@ -212,16 +212,6 @@ fn take_turn<I: Prompting, O: Sink + Send, A: Asked + Send, R: Threads>(
     }))
 }
 
-// The node that is asked first.
-fn first_node(nodes: Nodes) -> NodeId
-    ensures { result ≡ 0 }
-{
-    match NodeId::new(nodes, 0) {
-        Some(node) => node,
-        None => unreachable!(),
-    }
-}
-
 // Why a talk ends behind a turn: strict, it ends where the line wasn't answered as it asked.
 fn ending_trouble(strict: bool, trouble: Option<Trouble>) -> Option<Trouble>
     ensures { result ≡ ending_trouble strict trouble }
@@ -232,7 +222,8 @@ fn ending_trouble(strict: bool, trouble: Option<Trouble>) -> Option<Trouble>
 /// Waits until the nodes can be asked. Then it hears line after line, each behind a prompt where somebody types, and says to each
 /// what there is to say, in words or with JSON, before it hears the next. Behind a line that asks for a watch it says what changes
 /// while the next line is heard, in a thread of its own. It ends with a line that asks for that, or with the
-/// input. Strict, it also ends behind the first line that isn't answered as it asked, and tells why. Node 0 is asked first.
+/// input. Strict, it also ends behind the first line that isn't answered as it asked, and tells why. It asks `first` until a
+/// line moves it.
 ///
 /// # Errors
 /// `Refused`: what `asked` refuses with, or `OutOfMemory`; `Unread` and `Unprinted`: those of the streams. By then a front of
@@ -240,6 +231,7 @@ fn ending_trouble(strict: bool, trouble: Option<Trouble>) -> Option<Trouble>
 pub fn talk<I: Prompting, O: Sink + Send, A: Asked + Send, R: Threads>(
     alloc: Global,
     nodes: Nodes,
+    first: NodeId,
     json: bool,
     strict: bool,
     asked: &mut A,
@@ -247,13 +239,13 @@ pub fn talk<I: Prompting, O: Sink + Send, A: Asked + Send, R: Threads>(
     input: &mut I,
     out: &mut O,
 ) -> Result<Option<Trouble>, Stop>
-    ensures { Talks A.did json strict nodes (I.reading input.old) (I.reading input.new) (O.printing out.old) (O.printing out.new) result }
+    ensures { Talks A.did json strict nodes first (I.reading input.old) (I.reading input.new) (O.printing out.old) (O.printing out.new) result }
 {
     match asked.wait_until_ready() {
         Ok(()) => {}
         Err(refusal) => return Err(Stop::Refused(refusal)),
     }
-    let mut node = first_node(nodes);
+    let mut node = first;
     let mut watched = None;
     'turns: for _ in 0..u64::MAX {
         match take_turn(alloc, json, nodes, node, watched, asked, rt, input, out)? {

@@ -83,10 +83,12 @@ pub fn outcome_trouble(outcome: &Outcome) -> Option<Trouble>
         Outcome::Answered(answer) => answer_trouble(answer),
         Outcome::ListFull => Some(Trouble::ListFull),
         Outcome::Used(_) | Outcome::Nothing => Some(Trouble::Error),
+        Outcome::Whole => None,
     }
 }
 
-/// Why what came of a sync isn't what its line asked for. None where its command is acknowledged, whatever the reply.
+/// Why what came of a sync isn't what its line asked for. None where its command is acknowledged, whatever the reply, or where
+/// the node has published a full list.
 pub fn sync_trouble(outcome: &Outcome) -> Option<Trouble>
     ensures { result ≡ sync_trouble outcome.now }
 {

@@ -1,7 +1,7 @@
-use Rattle.std.proofs.Common.{ℕ, [], refl, subst, sym, None}
+use Rattle.std.proofs.Common.{[], refl, sym}
 use Rattle.std.proofs.KnownBytes.{Appends-nil}
 use Rattle.std.proofs.lemmas.Result.{err_from_is_err_and}
-use Rattle.rr_shell.specs.Talks.{Talk, begun, early, in_trouble, late, over, said}
+use Rattle.rr_shell.specs.Talks.{begun, early, in_trouble, late, over, said}
 use Rattle.rr_shell.proofs.WatchLemmas.{front_of_added}
 use Rattle.rr_shell.proofs.talking.talk.Goals as goal
 
@@ -9,8 +9,7 @@ pub returns-in-Err : goal.returns-in-Err
 returns-in-Err g c = early refl
 
 pub turns-init : goal.turns-init
-turns-init g c =
-    subst (λ (p : ℕ). Talk g.A.Asked.did c.args.json c.args.strict c.args.nodes (g.I.Source.reading c.args.input.now) (g.O.Sink.printing c.args.out.now) p None (g.I.Source.reading c.args.input.now) (g.O.Sink.printing c.args.out.now)) (sym c.first_node-node.ensures) (begun c.in-Ok.ensures)
+turns-init g c = begun c.in-Ok.ensures
 
 pub turns-preserved : goal.turns-preserved
 turns-preserved g c = said c.turns.invariant c.in-Some.turn (rw c.in-Some.is at c.in_ok-take_turn.ensures.turn) (sym c.in-None-ending_trouble.ensures)
