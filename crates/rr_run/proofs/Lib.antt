@@ -1,5 +1,8 @@
 mod BoardLemmas
 mod LeftLemmas
 mod NewsLemmas
+mod PieceLemmas
+mod ReplacingLemmas
 mod ShellLemmas
+mod SyncLemmas
 mod ToldLemmas

@@ -1,5 +1,5 @@
 -- Which nodes are left down, by a word.
-use Rattle.std.specs.Prelude.{ℕ, List, [], ◌∷◌, Option, None, Some, ◌==◌, if◌then◌else◌}
+use Rattle.std.specs.Prelude.{◌≡◌, ◌⊎◌, ◌<◌, ℕ, true, false, List, [], ◌∷◌, Option, None, Some, ◌==◌, if◌then◌else◌}
 use Rattle.clap.specs.Words.{Text}
 use Rattle.rr_types.specs.Nodes.{has_member, with_member}
 use Rattle.rr_text.specs.Reading.{◌>>=◌, node_at}
@@ -19,3 +19,11 @@ named_from n set (digit ∷ (comma ∷ rest)) =
 abbrev pub left_out_by : ℕ → Option Text → Option ℕ
 left_out_by n None = Some 0
 left_out_by n (Some word) = named_from n 0 word
+
+-- the first k nodes are left out
+abbrev pub AreLeftOutBelow : ℕ → ℕ → Type 0
+AreLeftOutBelow k left = (q : ℕ) → q < k → has_member left q ≡ true
+
+-- node p of n is the lowest that isn't left out; node 0, where all are
+abbrev pub IsFirstLeft : ℕ → ℕ → ℕ → Type 0
+IsFirstLeft n left p = ((p < n) × (has_member left p ≡ false) × AreLeftOutBelow p left) ⊎ ((p ≡ 0) × AreLeftOutBelow n left)

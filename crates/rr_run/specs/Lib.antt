@@ -1,13 +1,16 @@
 pub mod AnswerObjects
 pub mod Boards
 pub mod Closings
+pub mod Differences
 pub mod Ears
 pub mod Endings
+pub mod Fronts
 pub mod Hints
 pub mod LeavingOut
 pub mod News
 pub mod Numbers
 pub mod Questions
+pub mod Replacings
 pub mod Runs
 pub mod Shells
 pub mod Submits

@@ -7,7 +7,7 @@ use Rattle.rr_text.specs.declared.answer.Answer.{Answer}
 use Rattle.rr_text.specs.declared.answer.Answer.TheVariants.{Acknowledged, Unacknowledged, Unseen}
 use Rattle.rr_shell.specs.declared.listing.Listing.{Listing}
 use Rattle.rr_shell.specs.declared.outcome.Outcome.{Outcome}
-use Rattle.rr_shell.specs.declared.outcome.Outcome.TheVariants.{Answered, ListFull, Used, Nothing}
+use Rattle.rr_shell.specs.declared.outcome.Outcome.TheVariants.{Answered, ListFull, Used, Nothing, Whole}
 use Rattle.rr_shell.specs.Listings.{is_listing_at}
 use Rattle.rr_shell.specs.Talks.{is_sight_at}
 use Rattle.rr_run.specs.declared.asking.Question.{Question}
@@ -38,11 +38,17 @@ outcome_at p q (Answered answer) = Answered (answer_in p q answer)
 outcome_at p q ListFull = ListFull
 outcome_at p q (Used other) = Used (record { request = q; op = other.op })
 outcome_at p q Nothing = Answered (Unacknowledged p q)
+outcome_at p q Whole = Answered (Unacknowledged p q)
 
 -- the same, by what is told; it isn't acknowledged where something else is
 abbrev pub outcome_in : ℕ → RequestNo → Told → Outcome
 outcome_in p q (told.Outcome outcome s) = outcome_at p q outcome
 outcome_in p q _ = Answered (Unacknowledged p q)
+
+-- what a sync at node p has come to, by what is told: that a full list is published, or as a submit
+abbrev pub synced_in : ℕ → RequestNo → Told → Outcome
+synced_in p q (told.Outcome Whole s) = Whole
+synced_in p q t = outcome_in p q t
 
 -- what a look at a name at node p has seen, by what is told: nothing where that is no such answer
 abbrev pub sight_in : ℕ → List ℕ → Told → Answer

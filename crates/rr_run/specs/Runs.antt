@@ -13,11 +13,12 @@ use Rattle.rr_text.specs.Faults.{IsScriptFault}
 use Rattle.rr_cli.specs.Randoms.{IsNumberIn}
 use Rattle.rr_cli.specs.Ends.{EndsOnInput, IsStreamStatus, Prints}
 use Rattle.rr_cli.specs.Views.{EndsWithViews}
-use Rattle.rr_words.specs.Tasks.{ShellWords, Task, Run, Shell}
+use Rattle.rr_words.specs.Tasks.{ReplaceWords, ShellWords, Task, Run, Replace, Shell}
 use Rattle.rr_cli.specs.Refusals.{status_of}
 use Rattle.rr_words.specs.declared.tasks.Form.{Form}
 use Rattle.rr_run.specs.AnswerObjects.{answers_in}
 use Rattle.rr_run.specs.LeavingOut.{left_out_by}
+use Rattle.rr_run.specs.Replacings.{EndsOnReplacing}
 use Rattle.rr_run.specs.Shells.{EndsOnShellWords}
 
 -- a run in threads, with a file for its tape or none: answers are printed in a form, a line each; or the folders or the run are
@@ -70,13 +71,16 @@ pub record AsksForRun (task : Task) : Type 0 where
 abbrev pub AsksForThreads : Task → Type 0
 AsksForThreads (Run (Some nodes) (Some dir) (Some script) tape tick without form) = Unit {0}
 AsksForThreads (Shell words) = Unit {0}
+AsksForThreads (Replace words) = Unit {0}
 AsksForThreads task = ⊥
 
--- the program with threads, by words: a run, or a shell, or what the program without threads does, or no memory even to read them
+-- the program with threads, by words: a run, or a shell, or a replacement, which leaves the input alone, or what the program without threads does, or no memory even to read them
 pub data EndsWithThreads (faults : Kinds) (task : Task) (from to : Readable) (status : ℕ) (old new : Printing) : Type 0 where
   by_script : (asks : AsksForRun task) → faults ≡ [] → EndsOnRun asks.form asks.nodes asks.script asks.tape asks.without from to status old new
       → EndsWithThreads faults task from to status old new
   by_shell : (words : ShellWords) → task ≡ Shell words → faults ≡ [] → EndsOnShellWords words from.input to.input status old new
+      → EndsWithThreads faults task from to status old new
+  by_replacing : (words : ReplaceWords) → task ≡ Replace words → faults ≡ [] → to.input ≡ from.input → EndsOnReplacing words status old new
       → EndsWithThreads faults task from to status old new
   by_others : (faults ≡ [] → AsksForThreads task → ⊥) → EndsWithViews faults task from to status old new → EndsWithThreads faults task from to status old new
   out_of_memory : status ≡ 6 → new ≡ old → EndsWithThreads faults task from to status old new

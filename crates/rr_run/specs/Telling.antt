@@ -1,8 +1,9 @@
--- What standard error gets of a run that ends well: request numbers of its script that are decided as other commands.
-use Rattle.std.specs.Prelude.{◌≡◌, ℕ, true, List, [], ◌∷◌, ◌++◌, Option, MatchBool, codes}
+-- What standard error gets of a program that ends well: of a run the request numbers of its script that are decided as other commands, and
+-- of a shell that a new registry begins.
+use Rattle.std.specs.Prelude.{◌≡◌, ℕ, true, false, List, [], ◌∷◌, ◌++◌, Option, None, Some, MatchBool, codes, decimal}
 use Rattle.std.specs.List.{flat_map}
 use Rattle.std.specs.Str.{bytes_eq}
-use Rattle.std.specs.Io.KnownBytes.{Keeps, Appends}
+use Rattle.std.specs.Io.KnownBytes.{Keeps}
 use Rattle.clap.specs.Kinds.{Kinds}
 use Rattle.clap.specs.Words.{Text}
 use Rattle.rr_stream.specs.Streams.{Reading, AreAllOf}
@@ -12,16 +13,18 @@ use Rattle.rr_text.specs.ScriptTexts.{script_text}
 use Rattle.rr_shell.specs.Texts.{used_text}
 use Rattle.rr_threads.specs.declared.reused.Reused.{Reused}
 use Rattle.rr_threads.specs.Reusing.{are_reused}
-use Rattle.rr_words.specs.Tasks.{Task}
+use Rattle.rr_folders.specs.declared.judging.Verdict.{Verdict}
+use Rattle.rr_folders.specs.Judged.{IsJudged}
+use Rattle.rr_folders.specs.Surveys.{begins_by}
+use Rattle.rr_words.specs.Tasks.{ShellWords, Task, Shell}
+use Rattle.rr_run.specs.Fronts.{GrowsByFront}
+use Rattle.rr_run.specs.LeavingOut.{left_out_by}
+use Rattle.rr_run.specs.Shells.{IsNodesBy}
 use Rattle.rr_run.specs.Runs.{AsksForRun}
 
 -- the line that a request number was already used for another command
 abbrev pub reused_line : Reused → List ℕ
 reused_line r = codes "rr: " ++ used_text r.command ++ 10 ∷ []
-
--- known bytes grow by a front of a text, which is all of it unless the stream fails
-abbrev pub GrowsByFront : Option (List ℕ) → Option (List ℕ) → List ℕ → Type 0
-GrowsByFront old new text = (front : List ℕ) × (rest : List ℕ) × (text ≡ front ++ rest) × Appends old new front
 
 -- standard error gets a line for submits of a script, in its order, each with the other command that its request number was used
 -- for, and nothing else
@@ -41,7 +44,30 @@ abbrev pub TellsOfNamed : Text → Readable → Option (List ℕ) → Option (Li
 TellsOfNamed word from old new =
     MatchBool (bytes_eq word (codes "-")) (TellsOfInput from.input old new) (TellsOfInput (file_at from.files word) old new)
 
--- what standard error gets of a program that ends well, by words: nothing; or of a run what it tells of its script
+-- the folder of a shell, by a word
+abbrev pub folder_of : Option Text → Text
+folder_of None = codes "rr-data"
+folder_of (Some dir) = dir
+
+-- the line that a new registry of n nodes begins in a folder
+abbrev pub new_line : Text → ℕ → List ℕ
+new_line dir n = codes "rr: " ++ (dir ++ (codes ": a new registry, with --nodes " ++ (decimal n ++ 10 ∷ [])))
+
+-- standard error gets that line and nothing else where the folders of n nodes, without those that are left out, were judged to be those of a
+-- new registry; and nothing where they were judged otherwise
+pub data TellsNew (dir : Text) (n left : ℕ) (old new : Option (List ℕ)) : Type 0 where
+  goes_on : (verdict : Verdict) → IsJudged n left verdict → begins_by verdict ≡ false → Keeps old new → TellsNew dir n left old new
+  begins : (verdict : Verdict) → IsJudged n left verdict → begins_by verdict ≡ true → GrowsByFront old new (new_line dir n)
+      → TellsNew dir n left old new
+
+-- the same, of a shell by words
+abbrev pub TellsNewBy : ShellWords → Option (List ℕ) → Option (List ℕ) → Type 0
+TellsNewBy words old new =
+    (n : ℕ) × (left : ℕ) × IsNodesBy words.nodes n × (left_out_by n words.without ≡ Some left) × TellsNew (folder_of words.dir) n left old new
+
+-- what standard error gets of a program that ends well, by words: of a run what it tells of its script; of a shell that a new registry
+-- begins, where one does; else nothing
 pub data IsQuiet (faults : Kinds) (task : Task) (from : Readable) (old new : Option (List ℕ)) : Type 0 where
   silent : Keeps old new → IsQuiet faults task from old new
+  begun : (words : ShellWords) → task ≡ Shell words → faults ≡ [] → TellsNewBy words old new → IsQuiet faults task from old new
   told : (asks : AsksForRun task) → faults ≡ [] → TellsOfNamed asks.script from old new → IsQuiet faults task from old new

@@ -11,7 +11,7 @@ use Rattle.rr_run.specs.declared.asking.Question.{Question}
 use Rattle.rr_run.specs.declared.asking.Question.TheVariants as asks
 use Rattle.rr_run.specs.declared.asking.Told.{Told}
 use Rattle.rr_run.specs.declared.asking.Told.TheVariants as told
-use Rattle.rr_run.specs.Submits.{IsOutcome}
+use Rattle.rr_run.specs.Submits.{IsOutcome, IsSynced}
 
 -- the greatest request number of a client, by some facts
 abbrev pub IsGreatest : ℕ → Option ℕ → Type 0
@@ -22,7 +22,7 @@ IsGreatest client greatest = (facts : List Entry) × (greatest ≡ greatest_in c
 -- brief; whether a snapshot is written; or a greatest number
 abbrev pub IsToldTo : Question → Asking → Asking → Told → Type 0
 IsToldTo (asks.Submit p c) before a (told.Outcome outcome s) = IsOutcome c.request a outcome × IsSummary s
-IsToldTo (asks.Sync p q) before a (told.Outcome outcome s) = IsOutcome q a outcome × IsSummary s
+IsToldTo (asks.Sync p q) before a (told.Outcome outcome s) = IsSynced q a outcome × IsSummary s
 IsToldTo (asks.Look p name) before a (told.Sight answer) = IsSeen name before a answer
 IsToldTo (asks.Names p prefix) before a (told.Listing l) =
     (l.node ≡ before.node) × IfSome l.names (λ names. names ≡ bindings_with (bytes_of prefix) (registry_of a.known))

@@ -2,9 +2,9 @@
 
 ghost use Rattle.std.specs.Prelude.{◌≡◌, true, Some};
 ghost use Rattle.rr_shell.specs.Listings.{is_listing_at};
-ghost use Rattle.rr_shell.specs.Talks.{is_reply_at, is_outcome_at, is_sight_at, request_of, IsOf};
+ghost use Rattle.rr_shell.specs.Talks.{is_reply_at, is_outcome_at, is_sight_at, request_of, IsOf, IsSyncBy};
 ghost use Rattle.rr_shell.specs.Watches.{bytes_of};
-ghost use Rattle.rr_run.specs.Questions.{node_of, answer_in, outcome_at, outcome_in, sight_in, listing_in, is_written, summary_in};
+ghost use Rattle.rr_run.specs.Questions.{node_of, answer_in, outcome_at, outcome_in, synced_in, sight_in, listing_in, is_written, summary_in};
 
 use crate::news::NewEar;
 use crate::used::Greatest;
@@ -123,7 +123,9 @@ fn outcome_at(node: NodeId, request: RequestNo, outcome: &Outcome) -> Outcome
             request,
             op: other.op,
         }),
-        Outcome::Nothing => Outcome::Answered(Answer::Unacknowledged { node, request }),
+        Outcome::Nothing | Outcome::Whole => {
+            Outcome::Answered(Answer::Unacknowledged { node, request })
+        }
     }
 }
 
@@ -136,6 +138,19 @@ pub(crate) fn outcome_in(node: NodeId, request: RequestNo, told: &Told) -> Outco
     match told {
         Told::Outcome(outcome, _) => outcome_at(node, request, outcome),
         _ => Outcome::Answered(Answer::Unacknowledged { node, request }),
+    }
+}
+
+/// What a sync at a node has come to, by what is told.
+#[tactic(auto, using(crate::proofs::SyncLemmas::may_come))]
+pub(crate) fn synced_in(node: NodeId, request: RequestNo, told: &Told) -> Outcome
+    ensures by { result ≡ synced_in node request told.now }
+    ensures at { is_outcome_at node result ≡ true }
+    ensures of { IsSyncBy request.client node result }
+{
+    match told {
+        Told::Outcome(Outcome::Whole, _) => Outcome::Whole,
+        _ => outcome_in(node, request, told),
     }
 }
 

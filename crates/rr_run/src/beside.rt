@@ -5,6 +5,7 @@ ghost use Rattle.std.specs.Thread.{IsSend, IsSync};
 ghost use Rattle.rr_shell.specs.Talks.{Talks};
 ghost use Rattle.rr_run.specs.Endings.{refusal_of};
 
+use crate::deciding::{Decided, decide};
 use crate::ending::Ended;
 use crate::post::Post;
 use crate::teller::Teller;
@@ -13,7 +14,7 @@ use rr_shell::{Asked, Prompting, Stop, Trouble, talk};
 use rr_stream::Sink;
 use rr_threads::run_switched;
 use rr_turn::Open;
-use rr_types::{Nodes, Refusal};
+use rr_types::{NodeId, Nodes, Refusal};
 use std::sync::Wait;
 use std::thread;
 use std::thread::{Scope, Threads};
@@ -173,7 +174,7 @@ fn call_beside<
     given
 }
 
-/// Talks while the nodes run.
+/// Talks while the nodes run, first to this node.
 pub(crate) fn talk_beside<
     D: Disk + Reopen + Drop + Send,
     R: AllocGlobal + Threads + Wait + Clock + Sync,
@@ -183,6 +184,7 @@ pub(crate) fn talk_beside<
 >(
     rt: &R,
     nodes: Nodes,
+    first: NodeId,
     disks: Vec<D>,
     clients: Vec<Vec<Teller<'_>>>,
     post: &Post,
@@ -193,7 +195,7 @@ pub(crate) fn talk_beside<
     out: &mut O,
 ) -> Result<Option<Trouble>, Stop>
     requires alike { (one other : D) → D.tells one → D.tells other }
-    ensures { Talks A.did json strict nodes (I.reading input.old) (I.reading input.new) (O.printing out.old) (O.printing out.new) result }
+    ensures { Talks A.did json strict nodes first (I.reading input.old) (I.reading input.new) (O.printing out.old) (O.printing out.new) result }
 {
     let alloc = rt.alloc();
     let mut asked = asked;
@@ -203,6 +205,36 @@ pub(crate) fn talk_beside<
         disks,
         clients,
         post,
-        &mut || talk(alloc, nodes, json, strict, &mut asked, rt, input, out),
+        &mut || talk(
+            alloc, nodes, first, json, strict, &mut asked, rt, input, out,
+        ),
     )
+}
+
+/// Has the nodes decide while they run, until so many instances are decided.
+pub(crate) fn decide_beside<
+    D: Disk + Reopen + Drop + Send,
+    R: AllocGlobal + Threads + Wait + Clock + Sync,
+    A: Asked,
+>(
+    rt: &R,
+    nodes: Nodes,
+    disks: Vec<D>,
+    clients: Vec<Vec<Teller<'_>>>,
+    post: &Post,
+    asked: A,
+    least: u64,
+) -> (Result<Decided, Refusal>, A)
+    requires alike { (one other : D) → D.tells one → D.tells other }
+{
+    let mut asked = asked;
+    let decided = call_beside(
+        rt,
+        nodes,
+        disks,
+        clients,
+        post,
+        &mut || decide(&mut asked, nodes, least),
+    );
+    (decided, asked)
 }

@@ -1,12 +1,13 @@
 //! The board by which a shell asks the clients of nodes, and stops and starts the nodes.
 
 ghost use Rattle.std.specs.Prelude.{◌≡◌, true, false, None, IfOk, IfErr, IfSome, OnOk};
-ghost use Rattle.rr_run.specs.Boards.{Call, finds_on, finds_up, finds_begun, finds_failed, turns_off, turns_on, leaves, rings, takes, misses, finds_over, ends, IsTold, IsUnanswered, IsTurned, IsSwitched, IsCutOff};
+ghost use Rattle.rr_run.specs.Boards.{Call, finds_on, finds_up, finds_begun, finds_failed, finds_disputed, turns_off, turns_on, leaves, rings, takes, misses, finds_over, ends, IsTold, IsUnanswered, IsTurned, IsSwitched, IsCutOff};
 ghost use Rattle.rr_run.specs.Questions.{node_of};
 
 use crate::asking::{Question, Told};
 use crate::ending::Seen;
 use crate::post::Cause;
+use rr_threads::Dispute;
 use rr_types::{NodeId, Refusal};
 use std::sync::Wait;
 
@@ -31,6 +32,10 @@ pub(crate) trait Board {
     /// The refusal by which a node went down, if it went down by one and hasn't been started since.
     fn failure<R: Wait>(&self, rt: &R, node: NodeId) -> Option<Refusal>
         ensures { gives self.now (finds_failed node result) self.now };
+
+    /// The decisions over which a node went down, if it has heard one against its own and hasn't been started since.
+    fn dispute<R: Wait>(&self, rt: &R, node: NodeId) -> Option<Dispute>
+        ensures { gives self.now (finds_disputed node result) self.now };
 
     /// A node is to go down.
     fn turn_off(&mut self, node: NodeId) -> Cause

@@ -4,14 +4,16 @@ ghost use Rattle.std.specs.Prelude.{◌≡◌, ◌<◌, ◌++◌, true, None, If
 ghost use Rattle.rr_shell.specs.Deeds.{waits};
 ghost use Rattle.rr_shell.specs.Talks.{is_outcome_at, IsOf, IsKept, IsSyncBy};
 ghost use Rattle.rr_shell.specs.Watches.{bytes_of, IsPiece};
-ghost use Rattle.rr_run.specs.Boards.{Came, DidBy, IsToldDown};
+ghost use Rattle.rr_run.specs.Boards.{Came, CameOfSync, DidBy, IsToldDown};
 ghost use Rattle.rr_run.specs.Ears.{heard_by};
 ghost use Rattle.rr_run.specs.Hints.{hint_of_room, hint_behind, warned_behind, IsHinted};
 ghost use Rattle.rr_run.specs.Numbers.{greatest_told, HaveTold, IsNext, IsBehindAll};
 
-use crate::asking::{Question, Told, is_written, listing_in, outcome_in, sight_in, summary_in};
+use crate::asking::{
+    Question, Told, is_written, listing_in, outcome_in, sight_in, summary_in, synced_in,
+};
 use crate::board::{Board, ask, switch, wait_until_begun};
-use crate::failures::failure_text;
+use crate::failures::why_text;
 use crate::news::{Ear, next_changes};
 use rr_folders::{Block, Locks, Reasons};
 use rr_shell::{Asked, Hint, Listing, NodeStatus, Outcome, is_nearly_full, left_behind};
@@ -153,6 +155,29 @@ fn greatest_used<B: Board, R: Wait>(
     Ok(most)
 }
 
+impl<'x, 'y, B: Drop, F, R> Console<'x, 'y, B, F, R> {
+    /// The locks of its folder alone.
+    pub(crate) fn into_locks(self) -> Locks<F>
+        ensures { result ≡ self.entry.locks }
+    {
+        let Console {
+            rt: _,
+            reasons: _,
+            locks,
+            nodes: _,
+            client: _,
+            block: _,
+            board: _,
+            unanswered: _,
+            hint: _,
+            has_warned: _,
+            ear: _,
+            failed: _,
+        } = self;
+        locks
+    }
+}
+
 impl<
     'x,
     'y,
@@ -170,7 +195,8 @@ impl<
         if let Some(seq) = self.block.take() {
             return Ok(RequestNo { client, seq });
         }
-        self.block = self.locks.reserve(self.rt, self.block.next())?;
+        let least = self.block.next();
+        self.block = self.locks.reserve(self.rt, least, self.reasons)?;
         match self.block.take() {
             Some(seq) => Ok(RequestNo { client, seq }),
             None => Err(Refusal::TooLarge),
@@ -228,8 +254,8 @@ impl<
     // Has a node decide a command that changes nothing, under this request number.
     fn put_sync(&mut self, node: NodeId, request: RequestNo) -> Result<Outcome, Refusal>
         ensures outcome { IfOk result (λ o. is_outcome_at node o ≡ true) }
-        ensures of { IfOk result (IsOf request) }
-        ensures came { IfOk result (Came B.gives (Question.Sync node request) request) }
+        ensures of { IfOk result (IsSyncBy request.client node) }
+        ensures came { IfOk result (CameOfSync B.gives node request) }
         ensures kept { self.new.unanswered ≡ self.old.unanswered }
         ensures hinted { OnOk result (IsHinted B.gives (Question.Sync node request) (λ t. hint_of_room t self.old.has_warned) self.new.hint) }
         ensures warned { OnOk result (self.new.has_warned ≡ warned_behind self.old.has_warned self.new.hint) }
@@ -237,7 +263,7 @@ impl<
         let told = ask(&mut self.board, self.rt, &Question::Sync { node, request })?;
         self.hint = hint_of_room(&told, self.has_warned);
         self.has_warned = warned_behind(self.has_warned, &self.hint);
-        Ok(outcome_in(node, request, &told))
+        Ok(synced_in(node, request, &told))
     }
 
     // The nodes that have failed.
@@ -267,10 +293,9 @@ impl<
     fn down_status(&self, node: NodeId) -> Result<NodeStatus, Refusal>
         ensures { IfOk result (IsToldDown B.gives node) }
     {
-        let failure = match self.board.failure(self.rt, node) {
-            Some(refusal) => Some(failure_text(self.rt.alloc(), self.reasons, node, &refusal)?),
-            None => None,
-        };
+        let dispute = self.board.dispute(self.rt, node);
+        let refusal = self.board.failure(self.rt, node);
+        let failure = why_text(self.rt.alloc(), self.reasons, node, &dispute, &refusal)?;
         Ok(NodeStatus {
             node,
             summary: None,

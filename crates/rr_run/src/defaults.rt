@@ -13,9 +13,6 @@ use std::alloc::{AllocError, Global};
 use std::os::unix::fs::FileExt;
 use std::rt::Files;
 
-/// The folder of the nodes' folders.
-pub(crate) const FOLDER: &str = "rr-data";
-
 /// How many nodes there are where no folder tells it.
 const COUNT: u8 = 3;
 
@@ -49,6 +46,20 @@ where
     None
 }
 
+/// How many nodes the folder was made for, or else three. The folders of nodes that are left out aren't read.
+pub(crate) fn nodes_of_folders<R: Files + AllocGlobal>(rt: &R, dir: &str, without: NodeSet) -> Nodes
+where
+    R::File: FileExt,
+{
+    if let Some(nodes) = nodes_there(rt, dir, without) {
+        return nodes;
+    }
+    match Nodes::new(COUNT) {
+        Ok(nodes) => nodes,
+        Err(_) => unreachable!(),
+    }
+}
+
 /// How many nodes a word names. Without a word, as many as the folder was made for, or else three. The folders of nodes that another word
 /// leaves out aren't read.
 pub(crate) fn nodes_by<R: Files + AllocGlobal>(
@@ -71,35 +82,25 @@ where
     }
 }
 
-/// Shows what a shell runs over, where somebody types: how many nodes, which folder and whether a registry is new there, who is left out, who
-/// asks, and which node is asked first.
-pub(crate) fn show_begin<R: Files + AllocGlobal, I: Prompting>(
-    rt: &R,
+/// Shows what a shell runs over, where somebody types: how many nodes, which folder, who is left out, who asks, and which node is asked first.
+pub(crate) fn show_begin<I: Prompting>(
+    alloc: Global,
     nodes: Nodes,
     dir: &str,
     client: u32,
     without: NodeSet,
     input: &mut I,
 )
-where
-    R::File: FileExt,
     ensures { I.reading input.new ≡ I.reading input.old }
 {
     let count = nodes.count();
-    let kind = if nodes_there(rt, dir, without).is_none() {
-        "a new registry"
-    } else {
-        "the registry"
-    };
-    let (Ok(left_out), Ok(advice)) = (
-        left_out_text(rt.alloc(), nodes, without),
-        advice_text(rt.alloc(), nodes, without),
-    ) else {
+    let first = first_left(nodes, without).index();
+    let Ok(left_out) = left_out_text(alloc, nodes, without) else {
         return;
     };
-    let (left_out, advice) = (left_out.as_str(), advice.as_str());
-    let Ok(text) = format!(in rt.alloc();
-        "rr: {kind} in {dir}, of {count} nodes{left_out}; you are client {client}, and ask node 0{advice}; \"help\" lists the commands, \"quit\" or Ctrl-D ends\n"
+    let left_out = left_out.as_str();
+    let Ok(text) = format!(in alloc;
+        "rr: the registry in {dir}, of {count} nodes{left_out}; you are client {client}, and ask node {first}; \"help\" lists the commands, \"quit\" or Ctrl-D ends\n"
     ) else {
         return;
     };
@@ -119,15 +120,4 @@ fn left_out_text(alloc: Global, nodes: Nodes, without: NodeSet) -> Result<String
         }
     }
     Ok(text)
-}
-
-// What to say first where node 0 is left out; nothing else.
-fn advice_text(alloc: Global, nodes: Nodes, without: NodeSet) -> Result<String, AllocError> {
-    match first_left(nodes, without) {
-        Some(node) if node.index() > 0 => {
-            let index = node.index();
-            format!(in alloc; ", which is left out: say \"at {index}\"")
-        }
-        _ => Ok(String::new(alloc)),
-    }
 }

@@ -1,7 +1,8 @@
 //! Which nodes of a cluster are left down, by a word.
 
-ghost use Rattle.std.specs.Prelude.{◌≡◌, option_map};
-ghost use Rattle.rr_run.specs.LeavingOut.{named_beside, named_from, left_out_by};
+ghost use Rattle.std.specs.Prelude.{◌≡◌, ◌<◌, false, None, IfSome, option_map};
+ghost use Rattle.rr_types.specs.Nodes.{has_member};
+ghost use Rattle.rr_run.specs.LeavingOut.{named_beside, named_from, left_out_by, AreLeftOutBelow, IsFirstLeft};
 
 use rr_text::text_read::node;
 use rr_types::{NodeId, NodeSet, Nodes};
@@ -58,15 +59,32 @@ pub(crate) fn left_out_of_any(word: Option<&str>) -> NodeSet {
     }
 }
 
-/// The lowest node that isn't left out.
-pub(crate) fn first_left(nodes: Nodes, without: NodeSet) -> Option<NodeId> {
+// The lowest node that isn't left out. None: all are.
+#[tactic(auto, using(crate::proofs::LeftLemmas::one_more))]
+fn lowest_left(nodes: Nodes, without: NodeSet) -> Option<NodeId>
+    ensures some { IfSome result (λ p. (p < nodes) × (has_member without p ≡ false) × AreLeftOutBelow p without) }
+    ensures none { result ≡ None → AreLeftOutBelow nodes without }
+{
     for index in 0..nodes.count() {
-        let node = NodeId::new(nodes, index)?;
+        let Some(node) = NodeId::new(nodes, index) else {
+            unreachable!()
+        };
         if !without.contains(node) {
             return Some(node);
         }
     }
     None
+}
+
+/// The lowest node that isn't left out; node 0, where all are.
+pub(crate) fn first_left(nodes: Nodes, without: NodeSet) -> NodeId
+    ensures { IsFirstLeft nodes without result }
+{
+    match (lowest_left(nodes, without), NodeId::new(nodes, 0)) {
+        (Some(node), _) => node,
+        (None, Some(node)) => node,
+        (None, None) => unreachable!(),
+    }
 }
 
 /// Ends a command whose word for nodes that are left down is no list of these nodes.

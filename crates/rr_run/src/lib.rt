@@ -1,4 +1,5 @@
-//! `rr run` and `rr shell`: nodes in threads, over the files of folders, by a script or by lines as they come. This crate alone
+//! `rr run`, `rr shell` and `rr replace`: nodes in threads, over the files of folders, by a script, by lines as they come, or until a lost one
+//! can be replaced. This crate alone
 //! brings threads to the program. `run` takes the words and streams of `main`. It passes every other command to `rr_cli`.
 //!
 //! # Example
@@ -44,13 +45,18 @@ mod beside;
 mod board;
 mod closed;
 mod console;
+mod deciding;
 mod defaults;
+mod disputes;
 mod ending;
 mod failures;
+mod founding;
+mod fronts;
 mod leaving_out;
 mod news;
 mod post;
 mod program;
+mod replacing;
 mod reused;
 mod script_run;
 mod shell_run;

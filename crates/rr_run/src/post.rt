@@ -6,9 +6,10 @@ ghost use Rattle.rr_run.specs.Questions.{node_of};
 
 use crate::asking::{Question, Told};
 use crate::board::Board;
+use crate::disputes::Disputed;
 use crate::ending::{Ended, Ending, Seen};
-use rr_threads::Switches;
-use rr_types::{NodeId, NodeSet, Nodes, Refusal};
+use rr_threads::{Dispute, Switches};
+use rr_types::{Command, Name, NodeId, NodeSet, Nodes, Op, Refusal, Value, made_of};
 use std::alloc::Global;
 use std::mem;
 use std::sync::atomic::{AtomicBool, Ordering};
@@ -141,6 +142,18 @@ impl Post {
         ended
     }
 
+    /// The dispute over which a node went down, the lowest one's, if one went down over one and hasn't been started since.
+    pub(crate) fn disputed<R: Wait>(&self, rt: &R, nodes: Nodes) -> Option<Disputed> {
+        made_of!(Command, Name, Op, Value);
+        for index in 0..nodes.count() {
+            let node = NodeId::new(nodes, index)?;
+            if let Some(dispute) = self.switches.dispute(rt, node) {
+                return Some(Disputed { node, dispute });
+            }
+        }
+        None
+    }
+
     /// The refusal by which the run has ended, if one has; or else that by which a node went down, the lowest one's.
     pub(crate) fn into_refusal<R: Wait>(self, rt: &R, nodes: Nodes) -> Option<Refusal> {
         let Post {
@@ -192,6 +205,10 @@ impl Board for AtPost<'_> {
 
     fn failure<R: Wait>(&self, rt: &R, node: NodeId) -> Option<Refusal> {
         self.post.switches.failure(rt, node)
+    }
+
+    fn dispute<R: Wait>(&self, rt: &R, node: NodeId) -> Option<Dispute> {
+        self.post.switches.dispute(rt, node)
     }
 
     fn turn_off(&mut self, node: NodeId) -> Cause {

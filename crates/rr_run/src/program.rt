@@ -7,6 +7,7 @@ ghost use Rattle.rr_words.specs.Tasks.{faults_of, task_of};
 ghost use Rattle.rr_run.specs.Runs.{EndsWithThreads};
 ghost use Rattle.rr_run.specs.Telling.{IsQuiet};
 
+use crate::replacing::replace_by_words;
 use crate::script_run::{RunWords, run_by_words};
 use crate::shell_run::shell_by_words;
 use rr_cli::{Task, end_by_words, end_without_words, read_words};
@@ -24,7 +25,7 @@ use std::thread::Threads;
 use std::time::Clock;
 
 /// Runs the program `rr` by these words, the first of which is its name, and gives its exit status. It is
-/// `rr_cli::execute_with_views` with two more commands.
+/// `rr_cli::execute_with_views` with three more commands.
 ///
 /// `rr run --nodes NODES --dir DIR --script SCRIPT [--tape TAPE] [--tick MILLISECONDS] [--without NODES] [--json]` reads a script from the file
 /// SCRIPT, or from `input` where SCRIPT is `-`. It runs that many nodes in threads, node P over the disk in the folder DIR/P, and prints the
@@ -37,6 +38,11 @@ use std::time::Clock;
 /// folders in the same way, and reads commands from `input`, or else answers each LINE. A line is answered on `out` before the next is read, in words
 /// or with JSON. Where somebody types, `input` shows a prompt before each. With `--strict` it ends at the first line that isn't
 /// answered as asked. What goes wrong is told on `err`: the words, then the folders, ascending, then the file DIR/requests, then the run or a stream.
+/// Behind the folders it's told there that a new registry begins, if one does.
+///
+/// `rr replace DIR --node NODE [--without NODES] [--tick MILLISECONDS] [--dry-run]` runs nodes over folders in the same way, without node NODE,
+/// until they have decided all in which that node can have had a say. Then it gives the node a new folder with these decisions, and puts the
+/// old one aside. With `--dry-run` it tells what it would do. What goes wrong is told on `err`, as of a shell.
 pub fn execute<
     F: Read + Write + Seek + FileExt + OpenFile + Drop + Send + Lockable,
     R: Files<File = F> + AllocGlobal + Threads + Wait + Clock + Sync + MarkWriter<Handle = F>,
@@ -84,6 +90,7 @@ where
         Ok(Task::Sweep(_, _)) => rr_cli::execute_with_views(rt, words, files, input, out, err),
         Ok(Task::Draw(_, _)) => rr_cli::execute_with_views(rt, words, files, input, out, err),
         Ok(Task::Migrate(_, _, _)) => rr_cli::execute_with_views(rt, words, files, input, out, err),
+        Ok(Task::Replace(asked)) => replace_by_words(rt, &asked, out, err),
         Ok(Task::Verify(_, _)) => rr_cli::execute_with_views(rt, words, files, input, out, err),
         Ok(Task::Export(_, _)) => rr_cli::execute_with_views(rt, words, files, input, out, err),
         Err(error) => end_by_words(rt.alloc(), out, err, &error),

@@ -3,8 +3,9 @@
 ghost use Rattle.std.specs.Prelude.{◌≡◌, ◌++◌, true, OnOk};
 ghost use Rattle.std.specs.List.{flat_map};
 ghost use Rattle.rr_threads.specs.Reusing.{are_reused};
-ghost use Rattle.rr_run.specs.Telling.{reused_line, GrowsByFront, TellsReused};
+ghost use Rattle.rr_run.specs.Telling.{reused_line, TellsReused};
 
+use crate::fronts::write_front;
 use rr_shell::push_used_text;
 use rr_text::ScriptLine;
 use rr_text::text_word::{push_byte, push_bytes};
@@ -22,22 +23,6 @@ fn push_reused(out: &mut Vec<u8>, reused: &[Reused]) -> Result<(), AllocError>
         push_byte(out, b'\n')?;
     }
     Ok(())
-}
-
-// Writes a text. Where the stream fails it has taken a front of it.
-fn write_front<E: Write>(err: &mut E, text: &[u8])
-    ensures { GrowsByFront (E.contents err.old) (E.contents err.new) text.now }
-{
-    let mut rest = text;
-    while !rest.is_empty() {
-        let Ok(taken) = err.write(rest) else {
-            return;
-        };
-        if taken == 0 {
-            return;
-        }
-        rest = &rest[taken..];
-    }
 }
 
 /// Tells of request numbers of these lines that were used for other commands, a line each. Where memory or the stream fails,

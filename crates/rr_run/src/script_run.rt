@@ -1,6 +1,6 @@
 //! The run of a script: what it reads, what it prints and how it ends.
 
-ghost use Rattle.std.specs.Prelude.{◌≡◌, ◌⊎◌, true, length, Option, None, Some, option_map, IfOk, IfErr};
+ghost use Rattle.std.specs.Prelude.{◌≡◌, ◌⊎◌, true, length, Option, None, Some, option_map, IfOk, IfErr, IsErr};
 ghost use Rattle.std.specs.Io.KnownBytes.{Keeps};
 ghost use Rattle.clap.specs.Words.{Text};
 ghost use Rattle.rr_types.specs.declared.refusal.Refusal.TheVariants.{OutOfMemory, Device};
@@ -272,6 +272,19 @@ fn run_locked<
     )
 }
 
+// What a run of a script gave. Where a node's folder has left its place, it is refused as one whose device fails.
+fn unless_moved(script: &Script, ran: Result<Ran, Refusal>, has_moved: bool) -> Result<Ran, Refusal>
+    requires { IfOk ran (λ ran. are_reused script.now.lines ran.reused.items ≡ true) }
+    ensures reused { IfOk result (λ ran. are_reused script.now.lines ran.reused.items ≡ true) }
+    ensures moved { has_moved ≡ true → IsErr result }
+{
+    if has_moved {
+        let _ = ran?;
+        return Err(Refusal::Device);
+    }
+    ran
+}
+
 // Runs a script over folders as they were found, and prints the answers. The locks are released after the run.
 fn run_in<
     F: Read + Write + Seek + FileExt + OpenFile + Drop + Send + Lockable,
@@ -307,6 +320,7 @@ fn run_in<
     } = folders;
     let ran = run_locked(rt, &locks, disks, script, None, without, tick);
     drop(locks);
+    let ran = unless_moved(script, ran, reasons.have_moved());
     match ran {
         Ok(ran) => {
             let Ran { answers, reused } = ran;
@@ -354,6 +368,7 @@ fn run_taped<
     let recorder = Recorder::new(rt.alloc(), nodes);
     let ran = run_locked(rt, &locks, disks, script, Some(&recorder), without, tick);
     drop(locks);
+    let ran = unless_moved(script, ran, reasons.have_moved());
     match ran {
         Ok(ran) => {
             let Ran { answers, reused } = ran;

@@ -6,23 +6,31 @@ ghost use Rattle.rr_types.specs.declared.refusal.Refusal.TheVariants.{OutOfMemor
 ghost use Rattle.rr_words.specs.Tasks.{shell_words_in};
 ghost use Rattle.rr_cli.specs.Refusals.{status_of};
 ghost use Rattle.rr_shell.specs.Troubles.{ending_status};
+ghost use Rattle.rr_run.specs.Endings.{refusal_behind};
+ghost use Rattle.rr_run.specs.Differences.{TellsDispute};
+ghost use Rattle.rr_run.specs.Telling.{TellsNew, TellsNewBy};
 ghost use Rattle.rr_run.specs.Shells.{IsClientBy, EndsOnTalk, EndsOnShell, EndsOnLines, EndsOnShellWords, lines_text};
 
 use crate::beside::talk_beside;
 use crate::closed::end_by_closed;
 use crate::console::Console;
-use crate::defaults::{FOLDER, nodes_by, show_begin};
-use crate::leaving_out::{end_without_list, left_out_by};
+use crate::defaults::{nodes_by, show_begin};
+use crate::disputes::{Failure, end_by_dispute, failure_by};
+use crate::founding::{folder_of, tell_if_new};
+use crate::leaving_out::{end_without_list, first_left, left_out_by};
 use crate::post::{AtPost, Post};
 use crate::script_run::end_by_run_fault;
 use crate::teller::tellers;
 use crate::ticking::tick_by;
 use rr_cli::{ShellWords, end_by_refusal, end_by_stream, end_by_unprinted, number_in};
-use rr_folders::{Block, Folders, Lockable, Locks, MarkWriter, Reasons, open_folders};
+use rr_folders::{
+    Block, Folders, Lockable, Locks, MarkWriter, Reasons, Unreserved, enter, print_closed,
+    survey_folders,
+};
 use rr_shell::{Prompting, Stop, Trouble};
 use rr_stream::{Counted, Sink};
 use rr_text::text_word::{push_byte, push_bytes};
-use rr_types::{NodeSet, Nodes, Refusal};
+use rr_types::{NodeId, NodeSet, Nodes, Refusal};
 use rr_words::LAST_CLIENT;
 use std::alloc::Global;
 use std::fs::OpenFile;
@@ -34,7 +42,7 @@ use std::thread::Threads;
 use std::time::{Clock, Duration};
 
 /// How a shell talks: as which client, how long after a tick of a node the next is due, with JSON or not, whether it ends at the first line
-/// that isn't answered as asked, and which nodes are left down.
+/// that isn't answered as asked, which nodes are left down, and which one is asked first.
 #[derive(Clone, Copy, Debug)]
 struct Manner {
     client: u32,
@@ -42,6 +50,7 @@ struct Manner {
     json: bool,
     strict: bool,
     without: NodeSet,
+    first: NodeId,
 }
 
 // The status behind a talk that is over: that of the trouble that ended it, or 0.
@@ -54,7 +63,18 @@ fn ending_status(trouble: Option<Trouble>) -> u8
     }
 }
 
-// Ends by a talk, and the refusal of the run if that has one.
+// The refusal that a shell ends with: that of its run, or else a device that fails, where a node's folder has left its place.
+fn refusal_behind(refusal: Option<Refusal>, has_moved: bool) -> Option<Refusal>
+    ensures { result ≡ refusal_behind refusal has_moved }
+{
+    match refusal {
+        Some(refusal) => Some(refusal),
+        None if has_moved => Some(Refusal::Device),
+        None => None,
+    }
+}
+
+// Ends by a talk, and by what has failed if something has.
 fn end_by_talk<R: Files + AllocGlobal, E: Write>(
     rt: &R,
     err: &mut E,
@@ -63,16 +83,20 @@ fn end_by_talk<R: Files + AllocGlobal, E: Write>(
     without: NodeSet,
     reasons: &Reasons,
     talked: Result<Option<Trouble>, Stop>,
-    refusal: Option<Refusal>,
+    failure: Option<Failure>,
 ) -> u8
 where
     R::File: FileExt,
-    ensures ends { EndsOnTalk talked refusal result }
+    ensures ends { EndsOnTalk talked failure result }
     ensures quiet { result ≡ 0 → Keeps (E.contents err.old) (E.contents err.new) }
+    ensures differing { TellsDispute talked failure (E.contents err.old) (E.contents err.new) }
 {
     match talked {
-        Ok(trouble) => match refusal {
-            Some(refusal) => end_by_run_fault(rt, err, dir, nodes, without, reasons, &refusal),
+        Ok(trouble) => match failure {
+            Some(Failure::Refused(refusal)) => {
+                end_by_run_fault(rt, err, dir, nodes, without, reasons, &refusal)
+            }
+            Some(Failure::Differing(disputed)) => end_by_dispute(rt.alloc(), err, &disputed),
             None => ending_status(trouble),
         },
         Err(Stop::Refused(refusal)) => {
@@ -83,8 +107,8 @@ where
     }
 }
 
-// What a shell asks the nodes through at first, as this client.
-fn console_at<'x, 'y, F, R>(
+/// What a shell asks the nodes through at first, as this client.
+pub(crate) fn console_at<'x, 'y, F, R>(
     rt: &'x R,
     reasons: &'y Reasons,
     locks: Locks<F>,
@@ -127,7 +151,7 @@ fn shell_in<
 ) -> u8
 where
     R::Dir: Send,
-    ensures ends { EndsOnShell manner.json manner.strict nodes (I.reading input.old) (I.reading input.new) result (O.printing out.old) (O.printing out.new) }
+    ensures ends { EndsOnShell manner.json manner.strict nodes manner.first (I.reading input.old) (I.reading input.new) result (O.printing out.old) (O.printing out.new) }
     ensures quiet { result ≡ 0 → Keeps (E.contents err.old) (E.contents err.new) }
 {
     let Folders {
@@ -136,8 +160,8 @@ where
         reasons,
     } = folders;
     // (the first submit reserves them: a look writes nothing)
-    if let Err(refusal) = locks.see_numbers(rt) {
-        return end_by_requests(err, dir, &refusal);
+    if let Err(unreserved) = locks.see_numbers(rt) {
+        return end_by_requests(err, dir, &unreserved);
     }
     let post = match Post::new(rt.alloc(), nodes, manner.tick, manner.without) {
         Ok(post) => post,
@@ -150,9 +174,21 @@ where
     let console = console_at(rt, &reasons, locks, nodes, manner.client, &post);
     let (json, strict) = (manner.json, manner.strict);
     let talked = talk_beside(
-        rt, nodes, disks, clients, &post, json, strict, console, input, out,
+        rt,
+        nodes,
+        manner.first,
+        disks,
+        clients,
+        &post,
+        json,
+        strict,
+        console,
+        input,
+        out,
     );
-    let refusal = post.into_refusal(rt, nodes);
+    let disputed = post.disputed(rt, nodes);
+    let refusal = refusal_behind(post.into_refusal(rt, nodes), reasons.have_moved());
+    let failure = failure_by(disputed, refusal);
     end_by_talk(
         rt,
         err,
@@ -161,16 +197,20 @@ where
         manner.without,
         &reasons,
         talked,
-        refusal,
+        failure,
     )
 }
 
-// Ends by a file of request numbers that none can be reserved in. A second line tells it.
-fn end_by_requests<E: Write>(err: &mut E, dir: &str, refusal: &Refusal) -> u8
-    ensures { result ≡ status_of refusal.now }
+/// Ends by a file of request numbers that none can be reserved in. A second line tells it.
+pub(crate) fn end_by_requests<E: Write>(err: &mut E, dir: &str, unreserved: &Unreserved) -> u8
+    ensures { result ≡ status_of unreserved.now.refusal }
 {
-    let ending = end_by_refusal(err, refusal);
-    let _ = match refusal {
+    let ending = end_by_refusal(err, &unreserved.refusal);
+    if let Some(closed) = &unreserved.why {
+        let _ = print_closed(err, closed);
+        return ending;
+    }
+    let _ = match &unreserved.refusal {
         Refusal::Malformed(_) => {
             writeln!(
                 err,
@@ -198,7 +238,7 @@ fn client_of(word: Option<&str>) -> Option<u32>
     }
 }
 
-// Talks over the folders in the folder DIR.
+// Talks over the folders in the folder DIR. That a new registry begins there is told.
 fn shell_over<
     F: Read + Write + Seek + FileExt + OpenFile + Drop + Send + Lockable,
     R: Files<File = F> + AllocGlobal + Threads + Wait + Clock + Sync + MarkWriter<Handle = F>,
@@ -208,11 +248,19 @@ fn shell_over<
 >(rt: &R, nodes: Nodes, dir: &str, manner: Manner, input: &mut I, out: &mut O, err: &mut E) -> u8
 where
     R::Dir: Send,
-    ensures ends { EndsOnShell manner.json manner.strict nodes (I.reading input.old) (I.reading input.new) result (O.printing out.old) (O.printing out.new) }
-    ensures quiet { result ≡ 0 → Keeps (E.contents err.old) (E.contents err.new) }
+    ensures ends { EndsOnShell manner.json manner.strict nodes manner.first (I.reading input.old) (I.reading input.new) result (O.printing out.old) (O.printing out.new) }
+    ensures quiet { result ≡ 0 → TellsNew dir.now nodes manner.without (E.contents err.old) (E.contents err.new) }
 {
-    match open_folders(rt, nodes, dir, manner.without) {
-        Ok(folders) => shell_in(rt, dir, nodes, manner, folders, input, out, err),
+    let survey = match survey_folders(rt, nodes, dir, manner.without) {
+        Ok(survey) => survey,
+        Err(closed) => return end_by_closed(rt, err, dir, nodes, &closed),
+    };
+    let begins = survey.begins();
+    match enter(rt, nodes, dir, survey) {
+        Ok(folders) => {
+            tell_if_new(rt.alloc(), err, begins, dir, nodes);
+            shell_in(rt, dir, nodes, manner, folders, input, out, err)
+        }
         Err(closed) => end_by_closed(rt, err, dir, nodes, &closed),
     }
 }
@@ -239,8 +287,8 @@ fn shell_by_lines<
 >(rt: &R, nodes: Nodes, dir: &str, manner: Manner, lines: &[&str], out: &mut O, err: &mut E) -> u8
 where
     R::Dir: Send,
-    ensures ends { EndsOnLines manner.json manner.strict nodes (map (λ s. s.now) lines.now) result (O.printing out.old) (O.printing out.new) }
-    ensures quiet { result ≡ 0 → Keeps (E.contents err.old) (E.contents err.new) }
+    ensures ends { EndsOnLines manner.json manner.strict nodes manner.first (map (λ s. s.now) lines.now) result (O.printing out.old) (O.printing out.new) }
+    ensures quiet { result ≡ 0 → TellsNew dir.now nodes manner.without (E.contents err.old) (E.contents err.new) }
 {
     match lines_text(rt.alloc(), lines) {
         Ok(text) => {
@@ -264,9 +312,9 @@ pub(crate) fn shell_by_words<
 where
     R::Dir: Send,
     ensures ends { EndsOnShellWords (shell_words_in words.now) (I.reading input.old) (I.reading input.new) result (O.printing out.old) (O.printing out.new) }
-    ensures quiet { result ≡ 0 → Keeps (E.contents err.old) (E.contents err.new) }
+    ensures quiet { result ≡ 0 → TellsNewBy (shell_words_in words.now) (E.contents err.old) (E.contents err.new) }
 {
-    let dir = words.dir.unwrap_or(FOLDER);
+    let dir = folder_of(words.dir);
     let Some(nodes) = nodes_by(rt, words.nodes, dir, words.without) else {
         return end_without_numbers(err);
     };
@@ -282,11 +330,12 @@ where
         json: words.json,
         strict: words.strict,
         without,
+        first: first_left(nodes, without),
     };
     let lines = words.lines.as_slice();
     match lines {
         [] => {
-            show_begin(rt, nodes, dir, client, without, input);
+            show_begin(rt.alloc(), nodes, dir, client, without, input);
             shell_over(rt, nodes, dir, manner, input, out, err)
         }
         [_, ..] => shell_by_lines(rt, nodes, dir, manner, lines, out, err),

@@ -8,7 +8,7 @@ ghost use Rattle.rr_threads.specs.Asking.{IsAnswered};
 ghost use Rattle.rr_threads.specs.Summaries.{IsSummary};
 ghost use Rattle.rr_threads.specs.declared.desk.Written.{Written};
 ghost use Rattle.rr_shell.specs.Watches.{bytes_of};
-ghost use Rattle.rr_run.specs.Submits.{outcome_by, IsOutcome};
+ghost use Rattle.rr_run.specs.Submits.{outcome_by, IsOutcome, IsSynced};
 ghost use Rattle.rr_run.specs.Tellings.{IsGreatest, IsToldTo};
 
 use crate::asking::{Question, Told, bytes_of};
@@ -102,23 +102,57 @@ fn outcome_of<W: WindowName, T: Turnstile, R: Wait>(
     outcome_behind(handle, command, answer)
 }
 
+// What comes of a sync where the list is full: the node is waited for until all of it is published. None: as of `outcome_behind`.
+fn outcome_of_whole<W: WindowName, T: Turnstile, R: Wait>(
+    handle: &mut Handle<'_, '_, W, T, R>,
+    request: RequestNo,
+) -> Option<Outcome>
+    ensures { IfSome result (IsSynced request handle.new) }
+{
+    if handle.know_all(LOOKS) {
+        return Some(Outcome::Whole);
+    }
+    if handle.is_over() {
+        return None;
+    }
+    let node = handle.node();
+    Some(Outcome::Answered(Answer::Unacknowledged { node, request }))
+}
+
+// What comes of a sync that is submitted: of a full list as of `outcome_of_whole`. None: as of `outcome_behind`.
+fn outcome_of_open<W: WindowName, T: Turnstile, R: Wait>(
+    handle: &mut Handle<'_, '_, W, T, R>,
+    command: &Command,
+    name: &Name,
+) -> Option<Outcome>
+    ensures { IfSome result (IsSynced command.now.request handle.new) }
+{
+    let request = command.request;
+    let answer = handle.sync(LOOKS, request, name);
+    match outcome_behind(handle, command, answer) {
+        Some(Outcome::ListFull) => outcome_of_whole(handle, request),
+        Some(Outcome::Answered(answer)) => Some(Outcome::Answered(answer)),
+        Some(Outcome::Used(other)) => Some(Outcome::Used(other)),
+        _ => None,
+    }
+}
+
 // What comes of a sync under a request number that the node's list doesn't have yet. None: as of `outcome_behind`.
 fn outcome_of_sync<W: WindowName, T: Turnstile, R: Wait>(
     handle: &mut Handle<'_, '_, W, T, R>,
     request: RequestNo,
 ) -> Result<Option<Outcome>, Refusal>
-    ensures { IfOk result (λ outcome. IfSome outcome (IsOutcome request handle.new)) }
+    ensures { IfOk result (λ outcome. IfSome outcome (IsSynced request handle.new)) }
 {
     let name = Name::new(SYNC)?;
     let op = Op::Transfer(name, request.client);
     let command = Command { request, op };
     match handle.fate(&command) {
-        Fate::Used(other) => return Ok(Some(Outcome::Used(other))),
-        Fate::Decided => return Ok(Some(Outcome::Used(command))),
-        Fate::Open | Fate::Never => {}
+        Fate::Used(other) => Ok(Some(Outcome::Used(other))),
+        Fate::Decided => Ok(Some(Outcome::Used(command))),
+        Fate::Never => Ok(outcome_of_whole(handle, request)),
+        Fate::Open => Ok(outcome_of_open(handle, &command, &name)),
     }
-    let answer = handle.sync(LOOKS, request, &name);
-    Ok(outcome_behind(handle, &command, answer))
 }
 
 // What is told of what a submit has come to.

@@ -4,12 +4,12 @@ use Rattle.clap.specs.Kinds.{Kinds, IsAmong}
 use Rattle.clap.specs.declared.error.kind.ErrorKind.{ErrorKind}
 use Rattle.rr_words.specs.declared.tasks.Form.{Form}
 use Rattle.rr_words.specs.declared.tasks.Task.TheVariants as read
-use Rattle.rr_words.specs.Tasks.{Simulate, Viewing, Show, Random, Audit, Run, Shell, Sweep, Draw, Migrate, cut_words_in, random_words_in, shell_words_in, view_in, task_of, task_in, Verify, Export}
+use Rattle.rr_words.specs.Tasks.{Simulate, Viewing, Show, Random, Audit, Run, Shell, Sweep, Draw, Migrate, Replace, cut_words_in, random_words_in, replace_words_in, shell_words_in, view_in, task_of, task_in, Verify, Export}
 use Rattle.rr_cli.specs.Ends.{mistaken, by_help, by_version}
 use Rattle.rr_cli.proofs.EndLemmas.{kind_cases}
 use Rattle.rr_cli.specs.Views as views
-use Rattle.rr_run.specs.Runs.{AsksForThreads, by_script, by_shell, by_others, out_of_memory}
-use Rattle.rr_run.specs.Telling.{silent, told}
+use Rattle.rr_run.specs.Runs.{AsksForThreads, by_script, by_shell, by_replacing, by_others, out_of_memory}
+use Rattle.rr_run.specs.Telling.{silent, told, begun}
 use Rattle.rr_run.proofs.program.execute.Goals as goal
 
 -- the task that six words and a form make
@@ -124,6 +124,12 @@ returns-in-Ok-Migrate-clause-ends g c =
     let task : task_of (map g.S.AsStr.text c.args.words.now) ≡ Migrate (text_of w.field-0-0) (text_of w.field-0-1) (text_of w.field-0-2) = sym w.ensures.task ∙ ap task_in w.field-0-is in
     by_others (λ none asks. subst (λ t. AsksForThreads t) task asks) c.execute_with_views-in-Ok-Migrate.ensures.ends
 
+pub returns-in-Ok-Replace-clause-ends : goal.returns-in-Ok-Replace-clause-ends
+returns-in-Ok-Replace-clause-ends g c =
+    let w = c.in-Ok-Replace in
+    let task : task_of (map g.S.AsStr.text c.args.words.now) ≡ Replace (replace_words_in w.asked) = sym w.ensures.task ∙ ap task_in w.field-0-is in
+    by_replacing (replace_words_in w.asked) task w.ensures.faults refl c.replace_by_words.ensures.ends
+
 pub returns-in-Ok-Verify-clause-ends : goal.returns-in-Ok-Verify-clause-ends
 returns-in-Ok-Verify-clause-ends g c =
     let w = c.in-Ok-Verify in
@@ -155,7 +161,10 @@ pub returns-in-Ok-Run-default-default-None-default-default-default-default-claus
 returns-in-Ok-Run-default-default-None-default-default-default-default-clause-quiet g c = λ ended. silent (c.execute_with_views.ensures.quiet ended)
 
 pub returns-in-Ok-Shell-clause-quiet : goal.returns-in-Ok-Shell-clause-quiet
-returns-in-Ok-Shell-clause-quiet g c = λ ended. silent (c.shell_by_words.ensures.quiet ended)
+returns-in-Ok-Shell-clause-quiet g c =
+    let w = c.in-Ok-Shell in
+    let task : task_of (map g.S.AsStr.text c.args.words.now) ≡ Shell (shell_words_in w.asked) = sym w.ensures.task ∙ ap task_in w.field-0-is in
+    λ ended. begun (shell_words_in w.asked) task w.ensures.faults (c.shell_by_words.ensures.quiet ended)
 
 pub returns-in-Ok-Simulate-clause-quiet : goal.returns-in-Ok-Simulate-clause-quiet
 returns-in-Ok-Simulate-clause-quiet g c = λ ended. silent (c.execute_with_views-in-Ok-Simulate.ensures.quiet ended)
@@ -180,6 +189,9 @@ returns-in-Ok-Draw-clause-quiet g c = λ ended. silent (c.execute_with_views-in-
 
 pub returns-in-Ok-Migrate-clause-quiet : goal.returns-in-Ok-Migrate-clause-quiet
 returns-in-Ok-Migrate-clause-quiet g c = λ ended. silent (c.execute_with_views-in-Ok-Migrate.ensures.quiet ended)
+
+pub returns-in-Ok-Replace-clause-quiet : goal.returns-in-Ok-Replace-clause-quiet
+returns-in-Ok-Replace-clause-quiet g c = λ ended. silent (c.replace_by_words.ensures.quiet ended)
 
 pub returns-in-Ok-Verify-clause-quiet : goal.returns-in-Ok-Verify-clause-quiet
 returns-in-Ok-Verify-clause-quiet g c = λ ended. silent (c.execute_with_views-in-Ok-Verify.ensures.quiet ended)

@@ -14,4 +14,4 @@ returns-clause-ends g c = refused c.in-Err-ran.refusal c.end_by_run_fault.ensure
 
 pub returns-in-Ok-ran-clause-quiet : goal.returns-in-Ok-ran-clause-quiet
 returns-in-Ok-ran-clause-quiet g c = λ ended.
-    told_so c.args.script.now.lines c.lines.result.now c.in-Ok-ran.ran.reused.items c.as_slice.result.now _ _ _ c.lines.ensures.value c.as_slice.ensures.value c.in-Ok-ran.ensures c.tell_reused.ensures (c.end_by_answers.ensures.quiet ended)
+    told_so c.args.script.now.lines c.lines.result.now c.in-Ok-ran.ran.reused.items c.as_slice.result.now _ _ _ c.lines.ensures.value c.as_slice.ensures.value c.in-Ok-ran.ensures.reused c.tell_reused.ensures (c.end_by_answers.ensures.quiet ended)

@@ -1,5 +1,6 @@
-use Rattle.std.proofs.Common.{refl}
+use Rattle.std.proofs.Common.{◌∙◌, refl, sym}
 use Rattle.rr_run.specs.Runs.{refused}
+use Rattle.rr_run.proofs.ShellLemmas.{never_well}
 use Rattle.rr_run.proofs.ToldLemmas.{told_so}
 use Rattle.rr_run.proofs.script_run.run_taped.Goals as goal
 
@@ -11,4 +12,7 @@ returns-clause-ends g c = refused c.in-Err-ran.refusal c.end_by_run_fault.ensure
 
 pub returns-in-Ok-ran-clause-quiet : goal.returns-in-Ok-ran-clause-quiet
 returns-in-Ok-ran-clause-quiet g c = λ ended.
-    told_so c.args.script.now.lines c.lines.result.now c.in-Ok-ran.ran.reused.items c.as_slice.result.now _ _ _ c.lines.ensures.value c.as_slice.ensures.value c.in-Ok-ran.ensures c.tell_reused.ensures (c.end_by_tape-in-Ok-ran.ensures.quiet ended)
+    told_so c.args.script.now.lines c.lines.result.now c.in-Ok-ran.ran.reused.items c.as_slice.result.now _ _ _ c.lines.ensures.value c.as_slice.ensures.value c.in-Ok-ran.ensures.reused c.tell_reused.ensures (c.end_by_tape-in-Ok-ran.ensures.quiet ended)
+
+pub returns-clause-quiet : goal.returns-clause-quiet
+returns-clause-quiet g c = λ ended. absurd (never_well c.in-Err-ran.refusal (sym c.end_by_run_fault.ensures ∙ ended))

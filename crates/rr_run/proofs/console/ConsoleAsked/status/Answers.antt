@@ -1,4 +1,4 @@
-use Rattle.std.proofs.Common.{◌≡◌, ◌∙◌, ℕ, inr, sym, subst}
+use Rattle.std.proofs.Common.{◌∙◌, ℕ, inr, sym, subst}
 use Rattle.std.proofs.lemmas.Result.{IfOk-weaker}
 use Rattle.rr_run.specs.Boards.{WasDown}
 use Rattle.rr_run.proofs.console.ConsoleAsked.status.Goals as goal
