@@ -2,7 +2,8 @@
 #![tactic(auto)]
 
 use rr_client::{
-    Caller, ClusterError, Guest, Names, Options, Place, Turnstile, WindowName, run_cluster,
+    Caller, ClusterError, Guest, GuestRuntime, Host, Names, Options, Place, Turnstile, WindowName,
+    run_cluster,
 };
 use rr_types::{Name, Nodes, Reply, Value};
 use std::fs;
@@ -16,9 +17,10 @@ struct Clerk {
 }
 
 impl Guest for Clerk {
-    fn run<W: WindowName, T: Turnstile, R: Wait>(
+    fn run<W: WindowName, T: Turnstile, R: Wait, H: GuestRuntime>(
         &mut self,
         names: &mut Caller<'_, '_, '_, W, T, R>,
+        _host: &Host<'_, H>,
     ) -> Result<(), ClusterError> {
         if let Reply::Taken(_) = names.claim(&self.desk, &Value::new(b"room-4")?)? {
             names.sync()?;
@@ -45,8 +47,8 @@ fn main(rt: HostRuntime) -> anyhow::Result<()> {
             })?;
         }
         let (nodes, options) = (Nodes::new(3)?, Options::usual());
-        for clerk in run_cluster(&rt, nodes, "one_cluster.nodes", &options, places)? {
-            match clerk.desks {
+        for back in run_cluster(&rt, nodes, "one_cluster.nodes", &options, places)? {
+            match back.into_guest()?.desks {
                 None => println!(rt; "{life}: a clerk has claimed its desk")?,
                 Some(desks) => println!(rt; "{life}: a clerk has one of {desks} desks")?,
             }

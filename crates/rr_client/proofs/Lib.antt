@@ -1,2 +1,4 @@
 mod Rows
+mod Stops
 mod Submits
+mod Waits

@@ -1,5 +1,5 @@
 -- A guest as a client, and what its calls give.
-use Rattle.std.specs.Prelude.{◌≡◌, ◌⊎◌, ◌+◌, ◌-◌, ◌<◌, ◌≤◌, ℕ, List, length, Option, None, Some, Result, Ok, Err, IfOk, IfErr, IsErrAnd, Vec}
+use Rattle.std.specs.Prelude.{◌≡◌, ◌≢◌, ◌⊎◌, ◌+◌, ◌-◌, ◌<◌, ◌≤◌, ℕ, Bool, true, false, List, [], length, Option, None, Some, Result, Ok, Err, IfOk, IfErr, IsErrAnd, Vec}
 use Rattle.std.specs.declared.alloc.Global.{Global}
 use mathlib.Core.List.{IsPrefix}
 use Rattle.rr_types.specs.declared.binding.Binding.{Binding}
@@ -12,8 +12,10 @@ use Rattle.rr_window.specs.declared.sight.Sight.{Sight}
 use Rattle.rr_window.specs.declared.change.Change.{Change}
 use Rattle.rr_window.specs.Sights.{sight_of, bindings_with}
 use Rattle.rr_window.specs.Watches.{IsWatched}
+use Rattle.rr_client.specs.declared.names.Awaited.{Awaited}
+use Rattle.rr_client.specs.declared.names.Awaited.TheVariants.{Changed, TimeIsOver}
 use Rattle.rr_client.specs.declared.error.ClusterError.{ClusterError}
-use Rattle.rr_client.specs.declared.error.ClusterError.TheVariants.{Numbers, Unacknowledged, NothingToAsk, ListFull, NumberUsed, Over, Unseen, OutOfMemory, Late}
+use Rattle.rr_client.specs.declared.error.ClusterError.TheVariants.{Numbers, Unacknowledged, NothingToAsk, ListFull, NumberUsed, Over, Unseen, OutOfMemory, Late, System}
 
 -- a client: its node, its number, the longest list that it has seen or learned, the least number that its next request may have,
 -- the command that isn't acknowledged yet, the one that it has had submitted last, and the list up to where it has been told of changes
@@ -106,3 +108,40 @@ IsToldOf prefix a b (Err Late) = IsTold a b × (length a.told + 1024 < length b.
 IsToldOf prefix a b (Err Unseen) = b ≡ a
 IsToldOf prefix a b (Err OutOfMemory) = b ≡ a
 IsToldOf prefix a b (Err _) = ⊥
+
+-- from one state of a client to a later one: it may be told of more commands, but they change no name that begins so
+abbrev pub IsQuiet : List ℕ → Asker → Asker → Type 0
+IsQuiet prefix a b =
+    (b.node ≡ a.node) × (b.client ≡ a.client) × IsPrefix a.known b.known × (b.next ≡ a.next) × (b.unanswered ≡ a.unanswered)
+    × IsWatched prefix a.told b.told []
+
+-- what a wait for changes gives: all changes of the commands behind those that the client was told before, one at least; or the time is
+-- over, and up to what it then knows there are none; or at some look there were none yet, and too many commands at the next one. Behind
+-- another error there were none
+abbrev pub IsAwaited : List ℕ → Asker → Asker → Result Awaited ClusterError → Type 0
+IsAwaited prefix a b (Ok (Changed v)) = IsTold a b × IsWatched prefix a.told b.told v.items × (v.items ≢ [])
+IsAwaited prefix a b (Ok TimeIsOver) = IsTold a b × IsWatched prefix a.told b.told []
+IsAwaited prefix a b (Err Late) = IsTold a b × ((quiet : List Command) × IsWatched prefix a.told quiet [] × (length quiet + 1024 < length b.told))
+IsAwaited prefix a b (Err Over) = IsQuiet prefix a b
+IsAwaited prefix a b (Err Unseen) = IsQuiet prefix a b
+IsAwaited prefix a b (Err OutOfMemory) = IsQuiet prefix a b
+IsAwaited prefix a b (Err (System e)) = IsQuiet prefix a b
+IsAwaited prefix a b (Err _) = ⊥
+
+-- what one look of a wait gives, whose time may be over: what the wait gives; or nothing, where there is none and time is left
+abbrev pub IsLookedFor : List ℕ → Bool → Asker → Asker → Result (Option Awaited) ClusterError → Type 0
+IsLookedFor prefix late a b (Ok None) = (late ≡ false) × IsQuiet prefix a b
+IsLookedFor prefix late a b (Ok (Some TimeIsOver)) = (late ≡ true) × IsAwaited prefix a b (Ok TimeIsOver)
+IsLookedFor prefix late a b (Ok (Some (Changed v))) = IsAwaited prefix a b (Ok (Changed v))
+IsLookedFor prefix late a b (Err e) = IsAwaited prefix a b (Err e)
+
+-- that the clock can't be read
+abbrev pub IsUntimed : ClusterError → Type 0
+IsUntimed (System e) = Unit {0}
+IsUntimed _ = ⊥
+
+-- that the node goes down, or the clock can't be read
+abbrev pub IsOver : ClusterError → Type 0
+IsOver Over = Unit {0}
+IsOver (System e) = Unit {0}
+IsOver _ = ⊥

@@ -1,3 +1,5 @@
 pub mod Asking
 pub mod FreshNumbers
 pub mod Seating
+pub mod Standings
+pub mod Waits

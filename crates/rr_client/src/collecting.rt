@@ -1,19 +1,20 @@
 //! Guests get their seats, and come back.
 
-ghost use Rattle.std.specs.Prelude.{◌≡◌, ◌≤◌, [], length, All, IfOk, IfSome};
+ghost use Rattle.std.specs.Prelude.{◌≡◌, ◌≤◌, true, false, is_err, [], length, All, IfOk, IfErr, IfSome, Some, None};
 ghost use Rattle.rr_client.specs.FreshNumbers.{least_free};
-ghost use Rattle.rr_client.specs.Seating.{HasOwnNumbers, is_left_out, left_out_in};
+ghost use Rattle.rr_client.specs.Seating.{HasOwnNumbers, IsCalledOff, is_left_out, left_out_in};
 
 use crate::error::ClusterError;
-use crate::guest::Place;
+use crate::guest::{Place, Returned};
+use crate::host::{Host, Standing};
 use crate::numbers::block_from;
 use crate::promises::least_free;
-use crate::seated::{Coming, Seated, Slot};
-use rr_folders::Block;
+use crate::seated::{Coming, Resting, Seated, Slot};
+use rr_folders::{Block, Reasons};
 use rr_types::{NodeId, NodeSet, Nodes, Promise, Refusal};
 use std::alloc::Global;
 use std::rt::Files;
-use std::sync::Mutex;
+use std::sync::{Mutex, Wait};
 
 /// A slot for each of so many guests.
 pub(crate) fn open_slots<G: Drop>(alloc: Global, count: usize) -> Result<Vec<Slot<G>>, ClusterError>
@@ -54,6 +55,26 @@ fn own_numbers<R: Files + AllocGlobal>(
     block_from(rt, dir, least)
 }
 
+// A guest that comes to its node first, with request numbers of its client.
+fn coming_first<G: Drop, R: Files + AllocGlobal>(
+    rt: &R,
+    dir: &str,
+    promises: &[Promise],
+    client: u32,
+    guest: G,
+) -> Result<Coming<G>, ClusterError>
+    ensures own { IfOk result (λ coming. HasOwnNumbers promises.now (Some coming)) }
+    ensures same { IfOk result (λ coming. (coming.guest ≡ guest) × (coming.client ≡ client) × (coming.unanswered ≡ None)) }
+{
+    let numbers = own_numbers(rt, dir, promises, client)?;
+    Ok(Coming {
+        guest,
+        client,
+        numbers,
+        unanswered: None,
+    })
+}
+
 // Whether a node is left out.
 fn is_left_out(without: NodeSet, node: u8) -> bool
     ensures { result ≡ is_left_out without node }
@@ -85,17 +106,18 @@ pub(crate) fn left_out_in<G>(without: NodeSet, places: &[Place<G>]) -> Option<u8
 /// # Errors
 /// `NoNode`, `Numbers`, `OutOfMemory`.
 pub(crate) fn seat_all<'x, G: Drop, R: Files + AllocGlobal>(
-    rt: &R,
-    nodes: Nodes,
+    host: &'x Host<'x, R>,
     dir: &str,
     looks: u32,
     promises: &[Promise],
     slots: &'x [Slot<G>],
     places: Vec<Place<G>>,
-) -> Result<Vec<Vec<Seated<'x, G>>>, ClusterError>
-    ensures rows { IfOk result (λ rows. length rows.items ≡ nodes) }
+) -> Result<Vec<Vec<Seated<'x, G, R>>>, ClusterError>
+    ensures rows { IfOk result (λ rows. length rows.items ≡ host.now.nodes) }
     ensures own { IfOk result (λ rows. All (λ row. All (λ s. HasOwnNumbers promises.now s.coming) row.items) rows.items) }
 {
+    let rt = host.rt();
+    let nodes = host.nodes();
     let mut rows = open_rows(rt.alloc(), nodes)?;
     'places: for (place, slot) in places.into_iter().zip(slots) {
         let Place {
@@ -103,64 +125,90 @@ pub(crate) fn seat_all<'x, G: Drop, R: Files + AllocGlobal>(
             client,
             guest,
         } = place;
-        let numbers = own_numbers(rt, dir, promises, client)?;
+        let coming = coming_first(rt, dir, promises, client, guest)?;
         let Some(row) = rows.get_mut(usize::from(node)) else {
             let last = nodes.count() - 1;
             return Err(ClusterError::NoNode { node, last });
         };
         row.push(Seated {
-            alloc: rt.alloc(),
+            host,
             looks,
             slot,
-            coming: Some(Coming {
-                guest,
-                client,
-                numbers,
-            }),
+            coming: Some(coming),
         })?;
     }
     Ok(rows)
 }
 
-// The guest that lies in a slot. None: there is none, or it was called off as the run came to its end.
-fn came_back<G: Drop>(slot: Slot<G>) -> Result<Option<G>, ClusterError> {
-    let Some(done) = slot.into_inner() else {
-        return Ok(None);
+// Why a guest wasn't done: its node had failed, or was down.
+fn called_off<R: AllocGlobal + Wait>(
+    host: &Host<'_, R>,
+    reasons: &Reasons,
+    node: NodeId,
+) -> ClusterError
+    ensures { IsCalledOff node result }
+{
+    let Standing::Failed(refusal) = host.standing(node) else {
+        return ClusterError::Over;
     };
-    let (guest, told) = done;
-    match told {
-        Ok(()) => Ok(Some(guest)),
-        Err(error) => {
-            if matches!(&error, ClusterError::Over) {
-                Ok(None)
-            } else {
-                Err(error)
-            }
-        }
+    match reasons.text(host.rt().alloc(), node) {
+        Ok(reason) => ClusterError::Node {
+            node,
+            refusal,
+            reason,
+        },
+        Err(_) => ClusterError::OutOfMemory,
     }
 }
 
-/// The guests that lie in these slots, in their order. None: one is missing.
+// A guest that is back, with what it gave where it is done.
+fn back_from<G: Drop, R: AllocGlobal + Wait>(
+    host: &Host<'_, R>,
+    reasons: &Reasons,
+    resting: Resting<G>,
+) -> Returned<G>
+    ensures guest { result.guest ≡ resting.coming.guest }
+    ensures done { resting.is_done ≡ true → result.told ≡ resting.told }
+    ensures called_off { resting.is_done ≡ false → IfErr result.told (IsCalledOff resting.node) }
+    ensures undone { resting.is_done ≡ false → is_err result.told ≡ true }
+{
+    let Resting {
+        node,
+        coming,
+        told,
+        is_done,
+    } = resting;
+    let Coming {
+        guest,
+        client: _,
+        numbers: _numbers,
+        unanswered: _,
+    } = coming;
+    let told = if is_done {
+        told
+    } else {
+        Err(called_off(host, reasons, node))
+    };
+    Returned { guest, told }
+}
+
+/// The guests that lie in these slots, in their order.
 ///
 /// # Errors
-/// The first that a guest has given, but `Over`.
-pub(crate) fn collect_all<G: Drop>(
-    alloc: Global,
+/// `Over`, where one is missing. `OutOfMemory`.
+pub(crate) fn collect_all<G: Drop, R: AllocGlobal + Wait>(
+    host: &Host<'_, R>,
+    reasons: &Reasons,
     slots: Vec<Slot<G>>,
-) -> Result<Option<Vec<G>>, ClusterError>
-    ensures { IfOk result (λ guests. IfSome guests (λ guests. length guests.items ≡ length slots.items)) }
+) -> Result<Vec<Returned<G>>, ClusterError>
+    ensures { IfOk result (λ guests. length guests.items ≡ length slots.items) }
 {
-    let mut guests = Vec::new(alloc);
-    let mut is_missing = false;
+    let mut guests = Vec::new(host.rt().alloc());
     'slots: for slot in slots {
-        match came_back(slot)? {
-            Some(guest) => guests.push(guest)?,
-            None => is_missing = true,
-        }
+        let Some(resting) = slot.into_inner() else {
+            return Err(ClusterError::Over);
+        };
+        guests.push(back_from(host, reasons, resting))?;
     }
-    if is_missing {
-        Ok(None)
-    } else {
-        Ok(Some(guests))
-    }
+    Ok(guests)
 }

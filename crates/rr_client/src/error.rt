@@ -3,6 +3,7 @@
 use rr_folders::{Closed, Fault};
 use rr_types::{Command, NodeId, Refusal};
 use std::alloc::{AllocError, AllocFailed, Global};
+use std::io;
 use thiserror::Error;
 
 /// What goes wrong with a cluster and its names.
@@ -72,8 +73,8 @@ pub enum ClusterError {
     /// As many commands are decided as a cluster can decide: this one never is.
     #[error("the list of commands is full: the command is never decided")]
     ListFull,
-    /// The run is over, or comes to its end: return.
-    #[error("the run is over")]
+    /// The node goes down, or the run comes to its end: return. A guest is called again once its node is started.
+    #[error("the node goes down, or the run is over")]
     Over,
     /// A look or a list saw nothing: look again.
     #[error("the node showed nothing: look again")]
@@ -92,6 +93,11 @@ pub enum ClusterError {
         node: NodeId,
         refusal: Refusal,
         reason: Option<String>,
+    },
+    /// A call of the system failed: the clock can't be read, or nothing can be printed.
+    #[error("a call of the system failed: {error}")]
+    System {
+        error: io::Error,
     },
     /// Bytes that are no name, no value or no number of nodes.
     #[error("{}", refusal_text(.refusal))]
@@ -139,6 +145,8 @@ fn fault_text(fault: &Fault) -> &'static str {
         }
         Fault::Outdated =>
             "it is an older copy of itself, so the node can't know any more what it promised",
+        Fault::Replaced =>
+            "it is from before the node was replaced, and has no say any more; put the new folder back",
         Fault::LeftOut => "it is left out, and more than half of the nodes have to be there",
         Fault::Unfounded => "it is left out, and there is no cluster yet that could do without it",
     }
@@ -181,6 +189,12 @@ impl From<Refusal> for ClusterError {
             Refusal::OutOfMemory => ClusterError::OutOfMemory,
             refusal => ClusterError::Unfit { refusal },
         }
+    }
+}
+
+impl From<io::Error> for ClusterError {
+    fn from(error: io::Error) -> ClusterError {
+        ClusterError::System { error }
     }
 }
 

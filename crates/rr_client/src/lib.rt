@@ -1,7 +1,8 @@
-//! A registry that survives crashes, in your own program: begin here. `run_cluster` opens a cluster in a folder, or makes it there,
-//! runs its nodes in threads, and has each of your guests ask a node as a client (`Caller`), by the calls of `Names`: `claim`, `update`, `release`,
-//! `transfer`, `look`, `list`, `sync`, and `watch` and `changes`. It takes request numbers by itself, and times are milliseconds. Once all
-//! guests are done, it closes the folder and gives them back.
+//! A registry that survives crashes, in your own program: begin here. `run_cluster` opens a cluster in a folder, or makes it there, runs
+//! its nodes in threads, and has each of your guests ask a node as a client (`Caller`), by the calls of `Names`: `claim`, `update`,
+//! `release`, `transfer`, `look`, `list`, `sync`, `watch`, `changes` and `changes_within`. It takes request numbers by itself, and times
+//! are milliseconds. Once all guests are done, it closes the folder and gives them back, each with what it gave. A guest's `Host` prints,
+//! reads the clock, and stops and starts nodes. So does an `Overseer` in the thread that calls `run_overseen`.
 //!
 //! Names belong to clients, which are numbers. Let no two programs be one client. A guest that is the same client later has its
 //! names still.
@@ -10,7 +11,8 @@
 //!
 //! ```rust
 //! use rr_client::{
-//!     Caller, ClusterError, Guest, Names, Options, Place, Turnstile, WindowName, run_cluster,
+//!     Caller, ClusterError, Guest, GuestRuntime, Host, Names, Options, Place, Turnstile, WindowName,
+//!     run_cluster,
 //! };
 //! use rr_types::{Name, Nodes, Reply, Value};
 //! use std::fs;
@@ -24,9 +26,10 @@
 //! }
 //!
 //! impl Guest for Clerk {
-//!     fn run<W: WindowName, T: Turnstile, R: Wait>(
+//!     fn run<W: WindowName, T: Turnstile, R: Wait, H: GuestRuntime>(
 //!         &mut self,
 //!         names: &mut Caller<'_, '_, '_, W, T, R>,
+//!         _host: &Host<'_, H>,
 //!     ) -> Result<(), ClusterError> {
 //!         if let Reply::Taken(_) = names.claim(&self.desk, &Value::new(b"room-4")?)? {
 //!             names.sync()?;
@@ -53,8 +56,8 @@
 //!             })?;
 //!         }
 //!         let (nodes, options) = (Nodes::new(3)?, Options::usual());
-//!         for clerk in run_cluster(&rt, nodes, "one_cluster.nodes", &options, places)? {
-//!             match clerk.desks {
+//!         for back in run_cluster(&rt, nodes, "one_cluster.nodes", &options, places)? {
+//!             match back.into_guest()?.desks {
 //!                 None => println!(rt; "{life}: a clerk has claimed its desk")?,
 //!                 Some(desks) => println!(rt; "{life}: a clerk has one of {desks} desks")?,
 //!             }
@@ -65,21 +68,25 @@
 //! ```
 #![tactic(auto)]
 
+mod beside;
 mod cluster;
 mod collecting;
 mod error;
 mod guest;
+mod host;
 mod names;
 mod numbers;
 mod options;
 mod patience;
 mod promises;
 mod seated;
+mod waiting;
 
-pub use cluster::run_cluster;
+pub use cluster::{run_cluster, run_overseen};
 pub use error::ClusterError;
-pub use guest::{Guest, Place};
-pub use names::Names;
+pub use guest::{Guest, Overseer, Place, Returned};
+pub use host::{GuestRuntime, Host, Standing, Turned};
+pub use names::{Awaited, Names};
 pub use options::Options;
 pub use rr_turn::Turnstile;
 pub use rr_window::{Change, Sight, WindowName};

@@ -1,12 +1,24 @@
 //! What a guest asks a node.
 
-ghost use Rattle.std.specs.Prelude.{◌≡◌};
+ghost use Rattle.std.specs.Prelude.{◌≡◌, IfErr};
 ghost use Rattle.rr_types.specs.declared.command.Op.TheVariants.{Claim, Update, Release, Transfer};
 ghost use Rattle.rr_client.specs.Asking.{Asker, GoesOn, IsSubmitted, IsSubmittedAgain, IsSynced, IsLooked, IsListed, IsWatching, IsToldOf};
+ghost use Rattle.rr_client.specs.Asking.{IsAwaited, IsOver};
 
 use crate::error::ClusterError;
 use rr_types::{Binding, Name, NodeId, Reply, Value};
 use rr_window::{Change, Sight};
+use std::sync::Wait;
+use std::time::Clock;
+
+/// What comes of a wait for changes.
+#[derive(Debug, Drop)]
+pub enum Awaited {
+    /// What has changed, in the order of the list: one change at least.
+    Changed(Vec<Change>),
+    /// The time is over, and nothing had changed by what the node had published at the last look.
+    TimeIsOver,
+}
 
 /// The names of a cluster, as a client at a node asks for them. Each change has a request number of its own, so it counts once.
 ///
@@ -105,4 +117,25 @@ pub trait Names {
     /// `Late`, where more than 1,024 commands were published since: what changed meanwhile isn't told. As of `list`.
     fn changes(&mut self, prefix: &[u8]) -> Result<Vec<Change>, ClusterError>
         ensures { IsToldOf prefix.now (asker self.old) (asker self.new) result };
+
+    /// What has changed, as `changes` tells it, once something has: it waits for that, but no longer than so many milliseconds. It looks
+    /// once at least.
+    ///
+    /// # Errors
+    /// `Over`, once the node goes down; `System`, where the clock can't be read; and as of `changes`. But for `Late` no change is lost
+    /// then: the next call tells it.
+    fn changes_within<H: Wait + Clock>(
+        &mut self,
+        rt: &H,
+        prefix: &[u8],
+        milliseconds: u64,
+    ) -> Result<Awaited, ClusterError>
+        ensures { IsAwaited prefix.now (asker self.old) (asker self.new) result };
+
+    /// Sleeps so many milliseconds. The client knows what it knew.
+    ///
+    /// # Errors
+    /// `Over`, as soon as the node goes down; `System`, where the clock can't be read.
+    fn pause<H: Wait + Clock>(&self, rt: &H, milliseconds: u64) -> Result<(), ClusterError>
+        ensures { IfErr result IsOver };
 }

@@ -4,7 +4,7 @@ ghost use Rattle.std.specs.Prelude.{◌≡◌, ◌+◌, ◌≤◌, IfOk, IfErr, 
 ghost use Rattle.rr_client.specs.Asking.{IsNumberless};
 
 use crate::error::ClusterError;
-use rr_folders::{Block, reserve};
+use rr_folders::{Block, Unreserved, reserve};
 use rr_types::Refusal;
 use std::rt::Files;
 
@@ -20,7 +20,10 @@ pub(crate) fn block_from<R: Files + AllocGlobal>(
 {
     match reserve(rt, dir, least) {
         Ok(block) => Ok(block),
-        Err(refusal) => Err(ClusterError::Numbers { refusal }),
+        Err(unreserved) => {
+            let Unreserved { refusal, why: _ } = unreserved;
+            Err(ClusterError::Numbers { refusal })
+        }
     }
 }
 

@@ -11,8 +11,8 @@ pub struct Options {
     pub tick: u64,
     /// How long a call waits for its reply before it gives up.
     pub patience: u64,
-    /// Which nodes stay down. Their folders are neither read nor written, as they may be gone or broken. More than half of the nodes have to
-    /// be there.
+    /// Which nodes stay down, until somebody starts them. Before that their folders are neither read nor written, as they may be gone or
+    /// broken. More than half of the nodes have to be there.
     pub without: NodeSet,
 }
 

@@ -10,7 +10,8 @@ use rr_journal::Journal;
 use rr_types::{NodeId, NodeSet, Nodes, Promise};
 use std::alloc::Global;
 
-/// The promises of the facts that the disks of nodes hold, and the disks. Those of nodes that are left out aren't opened: they name nothing.
+/// The promises of the facts that the disks of nodes hold, and the disks. Those of nodes that are left out aren't opened: they name
+/// nothing.
 pub(crate) fn promises_of<D: Disk + Drop>(
     alloc: Global,
     nodes: Nodes,

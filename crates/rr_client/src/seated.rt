@@ -1,15 +1,18 @@
 //! A guest at its node, and the names that it asks for there.
 
-ghost use Rattle.std.specs.Prelude.{◌≡◌, ◌<◌, Some, IfOk, IfErr, OnErr};
+ghost use Rattle.std.specs.Prelude.{◌≡◌, Bool, None, Some, IfOk, IfErr};
 ghost use Rattle.rr_types.specs.Registry.{reply_of};
-ghost use Rattle.rr_client.specs.declared.error.ClusterError.TheVariants.{OutOfMemory, Unseen};
+ghost use Rattle.rr_client.specs.declared.error.ClusterError.TheVariants.{OutOfMemory, Over, Unseen};
 ghost use Rattle.rr_types.specs.declared.refusal.Refusal.TheVariants as refusals;
-ghost use Rattle.rr_client.specs.Asking.{GoesOn, IsUnanswered, kept_behind, ComesTo, IsSubmitted};
+ghost use Rattle.rr_client.specs.Asking.{GoesOn, IsUnanswered, kept_behind, ComesTo, IsSubmitted, IsLookedFor, IsAwaited, IsOver};
+ghost use Rattle.rr_client.specs.Standings.{is_done_by};
 
 use crate::error::ClusterError;
 use crate::guest::Guest;
-use crate::names::Names;
+use crate::host::{GuestRuntime, Host};
+use crate::names::{Awaited, Names};
 use crate::numbers::take_number;
+use crate::waiting::Waiting;
 use rr_folders::Block;
 use rr_text::Answer;
 use rr_threads::{Client, Fate, Handle};
@@ -19,22 +22,33 @@ use rr_window::{Change, Sight, Watch, WindowName};
 use std::alloc::Global;
 use std::marker::Model;
 use std::sync::{Mutex, Wait};
+use std::time::Clock;
 
-/// Where a guest lies that is done, with what it gave.
-pub(crate) type Slot<G> = Mutex<Option<(G, Result<(), ClusterError>)>>;
+/// Where a guest lies while it doesn't ask.
+pub(crate) type Slot<G> = Mutex<Option<Resting<G>>>;
 
-/// A guest that hasn't asked yet.
+/// A guest that comes to its node, with the command that `again` asks.
 #[derive(Drop)]
 pub(crate) struct Coming<G> {
     pub(crate) guest: G,
     pub(crate) client: u32,
     pub(crate) numbers: Block,
+    pub(crate) unanswered: Option<Command>,
 }
 
-/// A guest at its node.
+/// A guest that has returned from its node, and what it gave. One that isn't done comes again where the node is started.
 #[derive(Drop)]
-pub(crate) struct Seated<'x, G> {
-    pub(crate) alloc: Global,
+pub(crate) struct Resting<G> {
+    pub(crate) node: NodeId,
+    pub(crate) coming: Coming<G>,
+    pub(crate) told: Result<(), ClusterError>,
+    pub(crate) is_done: bool,
+}
+
+/// A guest at its node, until it comes there first, and its slot from then on.
+#[derive(Drop)]
+pub(crate) struct Seated<'x, G, H> {
+    pub(crate) host: &'x Host<'x, H>,
     pub(crate) looks: u32,
     pub(crate) slot: &'x Slot<G>,
     pub(crate) coming: Option<Coming<G>>,
@@ -131,6 +145,71 @@ impl<'h, 'd, 'y, W: WindowName, T: Turnstile, R: Wait> Caller<'h, 'd, 'y, W, T, 
         };
         self.put(&Command { request, op })
     }
+
+    // It is `Over`, where the node goes down.
+    fn check_up(&self) -> Result<(), ClusterError>
+        ensures { IfErr result (λ e. e ≡ Over) }
+    {
+        if self.handle.is_over() {
+            Err(ClusterError::Over)
+        } else {
+            Ok(())
+        }
+    }
+
+    // One look for changes: those that there are; or that the time is over, where it is.
+    #[tactic(auto, using(crate::proofs::Waits::quiet_self, crate::proofs::Waits::quiet_told, crate::proofs::Waits::told_error))]
+    fn look_once(&mut self, prefix: &[u8], is_late: bool) -> Result<Option<Awaited>, ClusterError>
+        ensures { IsLookedFor prefix.now is_late self.old self.new result }
+    {
+        self.check_up()?;
+        let changes = self.changes(prefix)?;
+        if !changes.is_empty() {
+            return Ok(Some(Awaited::Changed(changes)));
+        }
+        if is_late {
+            Ok(Some(Awaited::TimeIsOver))
+        } else {
+            Ok(None)
+        }
+    }
+
+    // Looks for changes again and again, until there are some or the time is over.
+    #[tactic(auto, using(crate::proofs::Waits::quiet_self, crate::proofs::Waits::quiet_on, crate::proofs::Waits::awaited_on))]
+    fn look_until<H: Wait + Clock>(
+        &mut self,
+        rt: &H,
+        prefix: &[u8],
+        milliseconds: u64,
+    ) -> Result<Awaited, ClusterError>
+        ensures { IsAwaited prefix.now self.old self.new result }
+    {
+        let mut waiting = Waiting::new(rt, milliseconds)?;
+        'looks: for _ in rt.forever() {
+            let left = waiting.left(rt)?;
+            if let Some(awaited) = self.look_once(prefix, left.is_zero())? {
+                return Ok(awaited);
+            }
+            waiting.rest(rt, left);
+        }
+        unreachable!()
+    }
+
+    // Rests until the time is over, or the node goes down.
+    fn rest_until<H: Wait + Clock>(&self, rt: &H, milliseconds: u64) -> Result<(), ClusterError>
+        ensures { IfErr result IsOver }
+    {
+        let mut waiting = Waiting::new(rt, milliseconds)?;
+        for _ in rt.forever() {
+            self.check_up()?;
+            let left = waiting.left(rt)?;
+            if left.is_zero() {
+                return Ok(());
+            }
+            waiting.rest(rt, left);
+        }
+        unreachable!()
+    }
 }
 
 impl<'h, 'd, 'y, W: WindowName, T: Turnstile, R: Wait> Names for Caller<'h, 'd, 'y, W, T, R> {
@@ -213,6 +292,19 @@ impl<'h, 'd, 'y, W: WindowName, T: Turnstile, R: Wait> Names for Caller<'h, 'd, 
             Err(refusal) => Err(unseen(&refusal)),
         }
     }
+
+    fn changes_within<H: Wait + Clock>(
+        &mut self,
+        rt: &H,
+        prefix: &[u8],
+        milliseconds: u64,
+    ) -> Result<Awaited, ClusterError> {
+        self.look_until(rt, prefix, milliseconds)
+    }
+
+    fn pause<H: Wait + Clock>(&self, rt: &H, milliseconds: u64) -> Result<(), ClusterError> {
+        self.rest_until(rt, milliseconds)
+    }
 }
 
 // Why a client sees nothing.
@@ -226,52 +318,99 @@ fn unseen(refusal: &Refusal) -> ClusterError
     }
 }
 
-// What ends a run where a guest has given this: nothing, where the run is over already.
-fn refusal_behind(told: &Result<(), ClusterError>) -> Result<(), Refusal> {
+// Whether a guest is done that has given this. It isn't where it says that its node goes down, and the node does.
+fn is_done_by(told: &Result<(), ClusterError>, is_ending: bool) -> bool
+    ensures { result ≡ is_done_by told.now is_ending }
+{
     match told {
-        Ok(()) => Ok(()),
-        Err(ClusterError::Over) => Err(Refusal::Down),
-        Err(_) => Err(Refusal::Failed),
+        Err(ClusterError::Over) => !is_ending,
+        _ => true,
     }
 }
 
-// Has a guest ask for names by a handle, and puts it into its slot.
-fn serve<'h, 'd, 'y, 'x, W: WindowName, T: Turnstile, R: Wait, G: Guest + Drop>(
+// Has a guest ask for names by a handle.
+fn serve<'h, 'd, 'y, W: WindowName, T: Turnstile, R: Wait, G: Guest + Drop, H: GuestRuntime>(
     handle: &'h mut Handle<'d, 'y, W, T, R>,
-    alloc: Global,
+    host: &Host<'_, H>,
     looks: u32,
-    slot: &'x Slot<G>,
     coming: Coming<G>,
-) -> Result<(), Refusal> {
+) -> Resting<G>
+    ensures client { result.coming.client ≡ coming.client }
+    ensures done { (ending : Bool) × (result.is_done ≡ is_done_by result.told ending) }
+{
     let Coming {
         mut guest,
         client,
         numbers,
+        unanswered,
     } = coming;
+    let node = handle.node();
     let watch = handle.watch();
     let mut caller = Caller {
         handle,
-        alloc,
+        alloc: host.rt().alloc(),
         looks,
         client,
         numbers,
-        unanswered: None,
+        unanswered,
         watch,
     };
-    let told = guest.run(&mut caller);
-    let ends = refusal_behind(&told);
-    *slot.lock(caller.handle.rt()) = Some((guest, told));
-    ends
+    let told = guest.run(&mut caller, host);
+    let is_done = is_done_by(&told, caller.handle.is_over());
+    let Caller {
+        handle: _,
+        alloc: _,
+        looks: _,
+        client: _,
+        numbers,
+        unanswered,
+        watch: _watch,
+    } = caller;
+    Resting {
+        node,
+        coming: Coming {
+            guest,
+            client,
+            numbers,
+            unanswered,
+        },
+        told,
+        is_done,
+    }
 }
 
-impl<'x, G: Guest + Drop> Client for Seated<'x, G> {
+impl<'x, G: Drop, H: GuestRuntime> Seated<'x, G, H> {
+    // The guest that comes: to its node's first life, or to a later one from its slot.
+    fn next(&mut self) -> Option<Coming<G>>
+        ensures first { (coming : Coming G) → self.old.coming ≡ Some coming → result ≡ Some coming }
+        ensures once { self.new.coming ≡ None }
+    {
+        if let Some(coming) = self.coming.take() {
+            return Some(coming);
+        }
+        let resting = self.slot.lock(self.host.rt()).take()?;
+        let Resting {
+            node: _,
+            coming,
+            told: _told,
+            is_done: _,
+        } = resting;
+        Some(coming)
+    }
+}
+
+impl<'x, G: Guest + Drop, H: GuestRuntime> Client for Seated<'x, G, H> {
     fn run<W: WindowName, T: Turnstile, R: Wait>(
         &mut self,
         handle: &mut Handle<'_, '_, W, T, R>,
     ) -> Result<(), Refusal> {
-        match self.coming.take() {
-            Some(coming) => serve(handle, self.alloc, self.looks, self.slot, coming),
-            None => Err(Refusal::Down),
-        }
+        let Some(coming) = self.next() else {
+            return Ok(());
+        };
+        let resting = serve(handle, self.host, self.looks, coming);
+        let is_done = resting.is_done;
+        *self.slot.lock(self.host.rt()) = Some(resting);
+        // (a client that is told `Down` is called again in the next life of its node)
+        if is_done { Ok(()) } else { Err(Refusal::Down) }
     }
 }

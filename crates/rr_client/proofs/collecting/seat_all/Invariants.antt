@@ -5,4 +5,4 @@ use Rattle.rr_client.specs.Seating.{HasOwnNumbers}
 use Rattle.rr_client.proofs.collecting.seat_all.Given as goal
 
 abbrev pub invariant-places : goal.invariant-places
-invariant-places g l = (length l.rows.items ≡ l.fn.nodes) × All (λ row. All (λ s. HasOwnNumbers l.promises s.coming) row.items) l.rows.items
+invariant-places g l = (length l.rows.items ≡ l.fn.host.nodes) × All (λ row. All (λ s. HasOwnNumbers l.promises s.coming) row.items) l.rows.items

@@ -1,0 +1,5 @@
+mod apart;
+mod clusters;
+mod lives;
+mod majorities;
+mod waits;
