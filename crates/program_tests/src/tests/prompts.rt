@@ -25,9 +25,11 @@ fn a_prompt_stands_before_each_line_that_is_read(rt: HostRuntime) {
     assert_eq!(rt; status, 0);
     assert!(rt; out.into_inner().as_slice() == b"claimed\nlist 1\na bound 0 x\n".as_slice());
     let told =
-        b"rr: a new registry in rr_shell_prompts, of 1 nodes; you are client 0, and ask node 0; \"help\" lists the commands, \"quit\" or Ctrl-D ends\n> > > \n";
+        b"rr: the registry in rr_shell_prompts, of 1 nodes; you are client 0, and ask node 0; \"help\" lists the commands, \"quit\" or Ctrl-D ends\n> > > \n";
     assert!(rt; seen.as_slice() == told.as_slice());
-    assert!(rt; err.is_empty());
+    assert!(rt;
+        err.as_slice() == b"rr: rr_shell_prompts: a new registry, with --nodes 1\n".as_slice()
+    );
     fs::remove_dir_all(&rt, "rr_shell_prompts").expect(&rt, "the folder goes");
 }
 
@@ -49,10 +51,12 @@ fn who_types_sees_what_the_shell_runs_over(rt: HostRuntime) {
     assert_eq!(rt; status, 0);
     assert!(rt;
         seen.as_slice()
-            .starts_with(b"rr: a new registry in rr_shell_defaults, of 3 nodes; ")
+            .starts_with(b"rr: the registry in rr_shell_defaults, of 3 nodes; ")
     );
     assert!(rt; seen.as_slice().ends_with(b"\n> > \n"));
-    assert!(rt; err.is_empty());
+    assert!(rt;
+        err.as_slice() == b"rr: rr_shell_defaults: a new registry, with --nodes 3\n".as_slice()
+    );
     fs::remove_dir_all(&rt, "rr_shell_defaults").expect(&rt, "the folder goes");
 }
 
@@ -73,7 +77,7 @@ fn who_types_sees_that_a_command_may_be_asked_again(rt: HostRuntime) {
     );
     let told = b"stopped 1\nunacknowledged\nstarted 1\nclaimed\n";
     let hint =
-        b"rr: a new registry in rr_shell_again, of 2 nodes; you are client 0, and ask node 0; \"help\" lists the commands, \"quit\" or Ctrl-D ends\n> > it may count or not; \"again\" asks once more under its request number, so that it counts once\n> > > \n";
+        b"rr: the registry in rr_shell_again, of 2 nodes; you are client 0, and ask node 0; \"help\" lists the commands, \"quit\" or Ctrl-D ends\n> > it may count or not; \"again\" asks once more under its request number, so that it counts once\n> > > \n";
     assert_eq!(rt; status, 0);
     assert!(rt; out.into_inner().as_slice() == told.as_slice());
     assert!(rt; seen.as_slice() == hint.as_slice());
