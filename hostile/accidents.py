@@ -4,7 +4,7 @@ docs/HOSTILE.md has a table of accidents and where each is tried. Here each call
 on standard error has to name a path in DIR, the call and what the system said. A registry on a disk without any room is looked at. Each part
 of the area of an only node has a bit flipped: it's refused by name, or each answer is right.
 
-What today's program can't do yet is skipped by name, unless --all is given.
+That four of seven nodes decide within a second right behind stops under load is tried without --short alone, as it takes minutes.
 """
 import errno
 import os
@@ -24,40 +24,27 @@ ERRORS = {"EIO": "Input/output error", "ENOSPC": "No space left on device"}
 KINDS = ("open", "read", "write", "sync", "rename", "mkdir", "lock")
 CALLS = "opening|reading|writing|syncing|renaming|locking|looking|making the file|(?:opening|making|syncing) the folder"
 MOST_CALLS, MOST_TRIES = 200, 100
-# How often three of seven nodes are stopped, a tick then in milliseconds, and how many ticks the next claim may take.
-STOPS, TICK, MOST_TICKS = 300, 20, 25
+# The seconds within which a node has heard what another decided.
+SOON = 20
+# How often three of seven nodes are stopped, a tick then in milliseconds, and how many ticks the next claim may take: a second of usual ticks.
+STOPS, TICK, MOST_TICKS = 300, 20, 20
 # Of how many calls and of how many bits one is tried with --short, and else.
 FEW_CALLS, FEW_BITS = {True: 7, False: 1}, {True: 211, False: 13}
-# What isn't there yet: the case, and what happens today.
-NOT_YET = {
-    "calls on the numbers": "a call on DIR/requests fails, and the line has neither file nor call nor reason, or no reason",
-    "calls of an opening": "an opening of DIR/P fails, and the line is `DIR/P: its files can't be read or written`",
-    "calls of a first start": "a first start fails at a call, and the reason is `No such file or directory`, of a look behind the clearing up",
-    "each write wants room": "where a full file system refuses writes in place too, the shell doesn't start even to look",
-    "made by a pipe": "`rr shell --dir WRONG -c LINE` makes a registry of three nodes, and says nothing",
-    "four of seven under load": "right behind claims three of seven nodes stop: in one try of a hundred the next claim takes 59 ticks or more",
-    "exported though refused": "`rr export` takes the list of a folder that a start refuses, and says nothing: an altered name is exported",
-}
-# Lines of today that say too little, by the case above.
-LITTLE = {
-    "calls on the numbers": r"DIR: a file in its folders couldn't be read or written|DIR/requests: it can't be read or written",
-    "calls of an opening": r"DIR/\d: its files can't be read or written",
-    "calls of a first start": r"DIR/\d/a[01]: (?:opening: )?No such file or directory \(os error 2\)",
-}
+# What is told of a node that hears a decision against its own: the instance and both commands.
+DIFFERENCE = r"instance (\d+) is decided as (\S+ claim b [xy]) here and as (\S+ claim b [xy]) by another node"
 LINES = ("claim a x", "snapshot 0", "claim b y", "look a")
 
 
 def tasks(options):
     calls = [("calls", start, kind, how) for start in ("fresh", "used") for kind in KINDS for how in ERRORS]
     lone = [("bits", snapshots) for snapshots in (0, 1)]
-    return calls + lone + [("room",), ("nodes that differ",), *((name,) for name in NOT_YET if name not in LITTLE)]
+    rest = ["room", "each write wants room", "exported though refused", "nodes that differ", "made by a pipe"]
+    rest += [] if options.short else ["four of seven under load"]
+    return calls + lone + [(name,) for name in rest]
 
 
 def work(rig, options, task):
     tally = Tally()
-    if task[0] in NOT_YET and not options.all:
-        tally.counts[f"skipped, not yet: {task[0]}"] += 1
-        return tally
     made = Accident(rig, tally, options)
     try:
         made.begin()
@@ -136,11 +123,7 @@ class Accident:
             self.tally.passed += 1
             self.tally.counts["calls that are told by path, call and reason"] += 1
             return
-        little = [name for name, text in LITTLE.items() if re.fullmatch(rf"(?:{text})\n", said)]
-        if little and not self.options.all:
-            self.tally.counts[f"skipped, not yet: {little[0]}"] += 1
-        else:
-            self.check(False, f"{what}: told as {said!r}")
+        self.check(False, f"{what}: told as {said!r}")
 
     # ---- no room
 
@@ -189,55 +172,24 @@ class Accident:
                 except OSError:
                     pass
 
-    # ---- an only node
-
-    def bits(self, snapshots):
-        """Bits all over the active area of an only node are flipped."""
-        lone = forgetting.Forgetting(self.rig, self.tally, self.options, 1, snapshots)
-        whole = scripts.bytes_of(os.path.join(lone.kept, "0", f"a{snapshots % 2}"))
-        for bit in range(self.options.seed, 8 * len(whole), FEW_BITS[self.options.short]):
-            found = bytearray(whole)
-            found[bit // 8] ^= 1 << bit % 8
-            lone.harmed(f"bit {bit} of the active area", (0,), snapshots % 2, {0: bytes(found)})
-
-    # ---- nodes that differ
-
-    def nodes_that_differ(self):
-        """A node that forgot lets two nodes decide differently. Both are up: no two answers differ, or somebody says so."""
-        self.check(self.shell("claim a x") == (0, b"claimed\n", b""), "no cluster begins")
-        shutil.copytree(f"{self.folder}/1", self.kept)
-        shell = self.asked()
-        self.wants(shell, ("stop 2", "stopped 2"), ("claim b x", "claimed"))
-        shell.child.kill()
-        shell.child.wait()
-        # (behind a kill an older copy can't be told by its mark)
-        shutil.rmtree(f"{self.folder}/1")
-        shutil.copytree(self.kept, f"{self.folder}/1")
-        shell = self.asked(9)
-        self.wants(shell, ("stop 0", "stopped 0"), ("at 1", "at 1"))
-        shell.ask("claim b y")
-        self.wants(shell, ("start 0", "started 0"))
-        answers = []
-        for node in (0, 1, 2):
-            answers.append([shell.ask(line) for line in (f"at {node}", "sync", "look b")][2])
-        ended = shell.end()
-        self.check(len({*answers}) == 1 or ended != (0, b""), f"nodes that differ answer {answers}, and the shell ended with {ended}")
-
-    # ---- what isn't there yet
-
     def each_write_wants_room(self):
-        """Where no write goes at all, as on a full disk that writes nothing in place, a registry is looked at."""
+        """Where no write goes at all, not even in place: an opening writes back what it reads, so a start is refused, and the line has the file
+        and the reason. `rr verify` and `rr export` write nothing, and have all. With room again it serves."""
         self.check(self.shell("claim a x") == (0, b"claimed\n", b""), "no cluster begins")
         env = {"LD_PRELOAD": self.options.preload_calls, "FAIL_CALL": "change", "FAIL_PATH": self.folder}
         env.update(FAIL_NTH="1", FAIL_MANY="1000000", FAIL_HOW=str(errno.ENOSPC))
         got = self.shell("look a", env=env)
-        self.check(got[:2] == (0, b"a bound 7 x\n"), f"a look where nothing can be written: {got} {self.rig.why}")
+        said = self.rig.why.decode().replace(self.folder, "DIR")
+        reason = rf"{ERRORS['ENOSPC']} \(os error {errno.ENOSPC}\)"
+        holds = got == (5, b"", b"rr: 2 Device\n") and re.fullmatch(rf"DIR/\d/a[01]: writing: {reason}\n", said)
+        self.check(holds, f"a look where nothing can be written: {got} {said!r}")
+        verified = self.rig.run("verify", self.folder, env=env)
+        self.check(verified.status == 0 and verified.out.endswith(b"\nagree\n"), f"verified where nothing can be written: {verified}")
+        exported = self.rig.run("export", self.folder, env=env)
+        self.check(exported[:2] == (0, b"submit 0 7 1 claim a x\n"), f"exported where nothing can be written: {exported}")
+        self.check(self.shell("look a") == (0, b"a bound 7 x\n", b""), "with room again")
 
-    def made_by_a_pipe(self):
-        """A DIR that was given wrongly makes no registry without a word, also where nobody types."""
-        status, out, err = self.shell("look a")
-        is_made, said = os.path.exists(self.folder), err + self.rig.why
-        self.check((b"new" in said and self.folder.encode() in said) if is_made else status, f"a new registry: {status} {out} {said}")
+    # ---- a folder that a start refuses
 
     def exported_though_refused(self):
         """A start refuses a folder whose list is the longest, as its bytes are others. An export doesn't take its altered name without a word."""
@@ -258,7 +210,85 @@ class Accident:
         refused = self.shell("look a")
         self.check(refused[:2] == (5, b"") and self.rig.why.startswith(path[:-3].encode() + b": "), f"altered bytes: {refused} {self.rig.why}")
         exported = self.rig.run("export", self.folder)
-        self.check(exported.status or exported.err or b"lost" not in exported.out, f"what is refused is exported: {exported}")
+        told = f"rr: export: it is of the other folders in {self.folder}, as a start would refuse these:\n".encode()
+        holds = exported == (4, b"submit 0 7 1 claim a x\n", told) and self.rig.why.startswith(path[:-3].encode() + b": ")
+        self.check(holds, f"a folder that is refused is exported: {exported} {self.rig.why}")
+        for node in (0, 2):
+            with open(f"{self.folder}/{node}/a0", "r+b") as file:
+                file.truncate(40)
+        exported = self.rig.run("export", self.folder)
+        self.check(exported.status == 5 and exported.out == b"", f"no majority of folders is whole, and that is exported: {exported}")
+
+    # ---- an only node
+
+    def bits(self, snapshots):
+        """Bits all over the active area of an only node are flipped."""
+        lone = forgetting.Forgetting(self.rig, self.tally, self.options, 1, snapshots)
+        whole = scripts.bytes_of(os.path.join(lone.kept, "0", f"a{snapshots % 2}"))
+        for bit in range(self.options.seed, 8 * len(whole), FEW_BITS[self.options.short]):
+            found = bytearray(whole)
+            found[bit // 8] ^= 1 << bit % 8
+            lone.harmed(f"bit {bit} of the active area", (0,), snapshots % 2, {0: bytes(found)})
+
+    # ---- nodes that differ
+
+    def nodes_that_differ(self):
+        """A node that forgot lets two nodes decide differently. One hears the other's decision: it goes down, and tells both commands in its
+        status and at the end, with status 4."""
+        self.check(self.shell("claim a x") == (0, b"claimed\n", b""), "no cluster begins")
+        shutil.copytree(f"{self.folder}/1", self.kept)
+        shell = self.asked()
+        self.wants(shell, ("stop 2", "stopped 2"), ("claim b x", "claimed"))
+        shell.child.kill()
+        shell.child.wait()
+        # (behind a kill an older copy can't be told by its mark)
+        shutil.rmtree(f"{self.folder}/1")
+        shutil.copytree(self.kept, f"{self.folder}/1")
+        shell = self.asked(9)
+        self.wants(shell, ("stop 0", "stopped 0"), ("at 1", "at 1"))
+        shell.ask("claim b y")
+        self.wants(shell, ("start 0", "started 0"))
+        shell.ask("sync")
+        told = self.wait_for_failure(shell)
+        self.check(told is not None, "no node that differs fails")
+        if told is None:
+            return
+        place, own, heard = re.fullmatch(r"node \d failed: " + DIFFERENCE, told).groups()
+        # (each node decided one of the two claims behind the first, which all have)
+        claims = {own.partition(" ")[2], heard.partition(" ")[2]}
+        self.check(place == "1" and claims == {"claim b x", "claim b y"}, f"nodes that differ are told so: {told}")
+        self.check(own.startswith("7.") != heard.startswith("7."), f"both commands have one client: {told}")
+        status, said = shell.end()
+        self.check((status, said) == (4, f"rr: 3 Damaged 0 0\n{told}\n".encode()), f"nodes that differ end the shell with {status}, {said}")
+        # (the shell has no terminal: what it tells is what `rr verify` finds)
+        verified = self.rig.run("verify", self.folder)
+        self.check(verified.status == 4 and b"disagree" in verified.out, f"folders that differ: {verified}")
+
+    def wait_for_failure(self, shell):
+        """The line of a status by which a node tells that another decided differently; None where none does in time."""
+        until = time.monotonic() + SOON
+        while time.monotonic() < until:
+            lines = [shell.ask("status"), shell.hear("status"), shell.hear("status")]
+            told = [line for line in lines if line and re.fullmatch(r"node \d failed: " + DIFFERENCE, line)]
+            if told:
+                return told[0]
+            time.sleep(0.1)
+        return None
+
+    def made_by_a_pipe(self):
+        """A DIR that was given wrongly makes no registry without a word, also where nobody types."""
+        told = f"rr: {self.folder}: a new registry, with --nodes 3\n".encode()
+        for first in (told, b""):
+            got = self.shell("look a")
+            self.check((*got, self.rig.new) == (0, b"a free\n", b"", first), f"a new registry, and then the same: {got} {self.rig.new}")
+        shutil.rmtree(self.folder)
+        shell = subprocess.run([self.rig.rr, "shell", "--dir", self.folder], input=b"look a\n", capture_output=True, env={}, timeout=LONG, check=False)
+        self.check((shell.returncode, shell.stdout, shell.stderr) == (0, b"a free\n", told), f"a new registry by a pipe: {shell}")
+        # (a start that is refused makes none, and tells of none)
+        shutil.rmtree(self.folder)
+        got = self.rig.run("shell", "--nodes", "3", "--dir", self.folder, "--without", "1", "-c", "look a")
+        self.check(got.status == 5 and not self.rig.new, f"a start that is refused: {got} {self.rig.new} {self.rig.why}")
+
 
     def four_of_seven_under_load(self):
         """Claims come, and three of seven nodes stop at once that don't coordinate first rounds. The next claim takes no long time."""

@@ -7,8 +7,6 @@ said. At the end the disks of the whole nodes, read by reading.py, hold what reg
 and each node has all that was acknowledged. Or it is refused: it names the folder and says why, changes nothing, `rr verify` doesn't call it
 agreeing, and `rr export` has all. A start is refused whose folder of one node is missing, damaged, full or read-only. Without that node it serves, and
 writes nothing there. A node that was stopped isn't started over another folder than its own, or over one that isn't as it was left.
-
-What today's program can't do yet is written here too. It's skipped by name, unless --all is given.
 """
 import errno
 import os
@@ -36,11 +34,7 @@ ROOM = 65536
 # Faults at a start, and what the system says of them where it says something.
 AT_A_START = {"missing": None, "damaged": None, "full": "ENOSPC", "read-only": "EROFS"}
 STARTED = ("removed, and started", "replaced, and started", "damaged, and started", "removed, and told")
-# What isn't there yet: the case, and what happens today.
-NOT_YET = {
-    "removed, and told at the end": "a shell whose node wrote to a folder that is gone ends with 0 and says nothing",
-    "removed, and put back older": "behind such an end DIR/marks is as before, so an older copy is served, and two nodes can decide differently",
-}
+ENDED = ("removed, and told at the end", "replaced, and told at the end", "removed, and put back older", "removed, and put back whole")
 
 
 def tasks(options):
@@ -53,14 +47,11 @@ def tasks(options):
     found += [(kind, *it) for it in places for kind in ("removed", "damaged", "mounted")]
     found += [("damaged anywhere", *it, options.seed + seed) for it in places for seed in range(2 if options.short else 12)]
     found += [("at a start", *it, how) for it in places for how in AT_A_START]
-    return found + [(kind, *it) for it in places for kind in STARTED] + [(name, 3, 1) for name in NOT_YET]
+    return found + [(kind, *it) for it in places for kind in (*STARTED, *ENDED)]
 
 
 def work(rig, options, task):
     tally = Tally()
-    if task[0] in NOT_YET and not options.all:
-        tally.counts[f"skipped, not yet: {task[0]}"] += 1
-        return tally
     made = Faulty(rig, tally, options, *task[:3])
     try:
         made.begin()
@@ -561,13 +552,22 @@ class Faulty:
         self.check(answer.startswith("error: "), f"a snapshot was answered {answer!r}")
         self.is_told("No such file or directory")
 
-    # ---- what isn't there yet
+    # ---- a folder that isn't in its place at the end
 
     def removed_and_told_at_the_end(self):
         """A shell whose node wrote to a folder that is gone says so at its end."""
         self.open()
         self.burst(self.node, BEFORE, self.remove)
+        self.end("removed")
+
+    def replaced_and_told_at_the_end(self):
+        """So does one whose node wrote to a folder in whose place there is another one, and that other one is refused."""
+        self.keep()
+        self.open()
+        self.burst(self.node, BEFORE, self.put_back)
+        self.go_on()
         self.end("")
+        self.open_again("refused")
 
     def removed_and_put_back_older(self):
         """What a node said before its folder was removed isn't forgotten behind the end: an older copy of the folder is refused."""
@@ -579,3 +579,12 @@ class Faulty:
         self.shell = None
         self.put_back()
         self.open_again("refused")
+
+    def removed_and_put_back_whole(self):
+        """A copy that has all that the node said is served, though its mark is older than what was noted of it."""
+        self.stop_and_keep()
+        self.remove()
+        self.go_on()
+        self.end("removed")
+        self.put_back()
+        self.open_again("served")

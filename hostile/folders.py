@@ -14,7 +14,7 @@ import socket
 import subprocess
 import threading
 
-from harness import LIMIT, Lines, Tally
+from harness import LIMIT, Lines, Tally, split_new
 
 CLAIMS, SHORT_CLAIMS = 2000, 200
 IN_USE = b"another program has locked it"
@@ -83,7 +83,7 @@ class Folder:
             ran = subprocess.run(words, cwd=self.path, stdin=subprocess.DEVNULL, capture_output=True, timeout=limit, env={}, check=False, **options)
         except subprocess.TimeoutExpired:
             return None, b"", b""
-        return ran.returncode, ran.stdout, ran.stderr
+        return ran.returncode, ran.stdout, split_new(ran.stderr)[0]
 
     def shell(self, *lines, **options):
         return self.run("shell", "--dir", ".", "--nodes", "1", *(word for line in lines for word in ("-c", line)), **options)

@@ -2,6 +2,7 @@
 import collections
 import os
 import pathlib
+import re
 import select
 import shutil
 import signal
@@ -41,6 +42,16 @@ class Tally:
         self.passed += other.passed
         self.failures += other.failures
         self.notes += other.notes
+
+
+# What a shell tells first on standard error that has begun a new registry.
+BEGINNING = re.compile(rb"rr: [^\n]*: a new registry, with --nodes [1-7]\n")
+
+
+def split_new(said):
+    """What standard error has got but the line that a new registry begins, and that line, if it's there."""
+    found = BEGINNING.match(said)
+    return (said[found.end() :], found.group()) if found else (said, b"")
 
 
 class Plain:
@@ -122,7 +133,8 @@ class Rig:
 
     def run(self, *words, env=None, limit=LIMIT):
         """Runs rr by these words, in no other environment; a run that hangs is ended, and has no status. The second line
-        on the fault of a text, an event of a tape or a folder, which the plain Rust program doesn't tell, goes to `why`."""
+        on the fault of a text, an event of a tape or a folder, which the plain Rust program doesn't tell, goes to `why`. That a new registry
+        begins goes to `new`."""
         return self.run_all([self.rr, *words], env, limit)
 
     def run_all(self, words, env=None, limit=LIMIT):
@@ -133,7 +145,8 @@ class Rig:
         actions.append((os.POSIX_SPAWN_OPEN, 0, "/dev/null", os.O_RDONLY, 0))
         child = os.posix_spawn(words[0], words, env or {}, file_actions=actions)
         ending = Ending(self.end_of(child, limit), self.printed(self.out), self.printed(self.err))
-        self.why = b""
+        said, self.new = split_new(ending.err)
+        ending, self.why = ending._replace(err=said), b""
         if ending.status in (3, 4, 5, 7):
             line, feed, self.why = ending.err.partition(b"\n")
             ending = ending._replace(err=line + feed)

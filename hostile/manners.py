@@ -5,7 +5,7 @@
 
 What has to come is by docs/FORMATS.md and docs/decisions/program.md. Lines of help have at most 100 letters. On a terminal the line of a
 refusal stands behind its reason, and in a pipe or with --json before it. A value that is empty as none was given is told on a terminal alone.
-There a shell also says which nodes are left out.
+There a shell also says which nodes are left out. share/shrink.py leaves no event of a schedule that isn't wanted.
 The completions for bash find files with blanks, and those behind `draw --tape`. The last line says how many held; the status is 1 where one didn't."""
 import argparse
 import os
@@ -17,7 +17,7 @@ import sys
 import tempfile
 
 TREE = pathlib.Path(__file__).resolve().parent.parent
-COMMANDS = ("sim", "stats", "check", "random", "sweep", "draw", "run", "shell", "audit", "show", "verify", "export", "migrate")
+COMMANDS = ("sim", "stats", "check", "random", "sweep", "draw", "run", "shell", "audit", "show", "verify", "export", "migrate", "replace")
 WIDEST, LIMIT = 100, 60
 FAULT = b"standard input:1:1: the first line isn't nodes N, with N from 1 to 7\n"
 NUMBER = b"rr: 14 BadEvent 1\n"
@@ -71,6 +71,23 @@ def completed(words, folder):
     return set(ran.stdout.splitlines())
 
 
+def shrunk(rr, folder):
+    """What is left of a schedule of which a request is acknowledged, and whether each of its events is wanted for that."""
+    command = ["sh", "-c", f"'{rr}' sim \"$1\" | grep -q '^ack '", "sh"]
+    small = pathlib.Path(folder, "small.schedule")
+    words = [str(TREE / "share/shrink.py"), "--rr", rr, "--out", str(small), str(TREE / "examples/failed_write.schedule"), "--"]
+    status = in_pipes([*words, *command])[0]
+    head, *events = small.read_text().splitlines()
+    less = pathlib.Path(folder, "less.schedule")
+
+    def is_acknowledged(left):
+        less.write_text("".join(f"{line}\n" for line in (head, *left)))
+        return in_pipes([*command, str(less)])[0] == 0
+
+    spare = [place for place in range(len(events)) if is_acknowledged(events[:place] + events[place + 1 :])]
+    return status, len(events) < 48, is_acknowledged(events), spare
+
+
 def checks(rr, folder):
     """What has to hold, with whether it does and what was found."""
     for name in ("a b.tape", "plain.tape"):
@@ -86,12 +103,15 @@ def checks(rr, folder):
     _, shown = on_terminal([rr, "shell", "--nodes", "1", "--dir", "typed"], folder, b"claim a x\nupdate a\nclaim b\nclaim a\nquit\n")
     yield "an empty value is told on a terminal, where it is set", shown.count(told) == 2, shown
     ran = in_pipes([rr, "shell", "--nodes", "1", "--dir", "piped"], b"claim a\n", folder)
-    yield "an empty value isn't told in a pipe", *same(ran, (0, b"claimed\n", b""))
+    yield "an empty value isn't told in a pipe", *same(ran, (0, b"claimed\n", b"rr: piped: a new registry, with --nodes 1\n"))
     in_pipes([rr, "shell", "--nodes", "3", "--dir", "left"], b"claim a\n", folder)
     _, shown = on_terminal([rr, "shell", "--dir", "left", "--without", "2"], folder, b"quit\n")
     yield "a terminal says who is left out", b"of 3 nodes, without 2; you are client 0, and ask node 0;" in shown, shown
     _, shown = on_terminal([rr, "shell", "--dir", "left", "--without", "0"], folder, b"quit\n")
-    yield "a terminal says whom to ask", b'without 0; you are client 0, and ask node 0, which is left out: say "at 1";' in shown, shown
+    yield "a schedule is made smaller, and each event that is left is wanted", *same(shrunk(rr, folder), (0, True, True, []))
+    yield "a terminal says whom to ask", b"without 0; you are client 0, and ask node 1;" in shown, shown
+    ran = in_pipes([rr, "shell", "--dir", "left", "--without", "0"], b"look a\n", folder)
+    yield "where node 0 is left out, the next is asked first", *same(ran, (0, b"a bound 0\n", b""))
     yield "files with blanks are completed", *within({"a b.tape", "plain.tape", "c d"}, completed(["rr", "sim", ""], folder))
     yield "folders with blanks are completed", *within({"c d", "--json"}, completed(["rr", "verify", ""], folder))
     yield "files are completed behind draw --tape", *within({"a b.tape", "--html"}, completed(["rr", "draw", "--tape", ""], folder))

@@ -10,6 +10,7 @@ decided list has no claim that succeeds while another leads. The last line says 
 import argparse
 import pathlib
 import random
+import shutil
 import signal
 import subprocess
 import sys
@@ -86,6 +87,17 @@ def try_majority(program, folder):
         wants(rr.Refused, names.again)
 
 
+def try_without(program, folder):
+    """A folder is lost: the registry is refused, and goes on without that node."""
+    shutil.rmtree(f"{folder}/1")
+    check("--without 1" in str(wants(rr.Ended, rr.Names, folder)), "a registry with a lost folder is refused, and told how it goes on")
+    with rr.Names(folder, client=7, program=program, without=[1]) as names:
+        check([node.up for node in names.status()] == [True, False, True], "the node of the lost folder stays down")
+        check(names.look("late") == rr.Binding("late", 7, "x"), "what was answered is there without a node")
+        names.claim("later", "y")
+    check(not pathlib.Path(folder, "1").exists(), "the lost folder isn't made")
+
+
 def try_kill(program, folder, seed, before, unanswered):
     """Claims names until the shell is killed, and gives back those that are there then."""
     names = rr.Names(folder, client=7, program=program)
@@ -142,6 +154,7 @@ def main():
     with tempfile.TemporaryDirectory() as room:
         try_methods(program, f"{room}/methods")
         try_majority(program, f"{room}/methods")
+        try_without(program, f"{room}/methods")
         found, unanswered = {}, set()
         for seed in range(options.kills):
             found = try_kill(program, f"{room}/kills", seed, found, unanswered)

@@ -23,7 +23,7 @@ import threading
 import time
 
 sys.dont_write_bytecode = True
-from harness import Lines  # noqa: E402
+from harness import Lines, split_new  # noqa: E402
 
 MOST_NAMES = 2000
 BLOCK = 1048576
@@ -64,7 +64,7 @@ class Shell:
         return answer
 
     def end(self):
-        """Its status and standard error, once it has ended."""
+        """Its status and standard error, once it has ended. That it has begun a new registry is left out."""
         try:
             self.child.stdin.close()
         except BrokenPipeError:
@@ -75,7 +75,7 @@ class Shell:
             self.child.kill()
             self.child.wait()
             raise Wrong("it doesn't end") from None
-        said = self.child.stderr.read()
+        said = split_new(self.child.stderr.read())[0]
         self.child.stdout.close()
         self.child.stderr.close()
         return status, said

@@ -27,7 +27,7 @@ import time
 
 sys.dont_write_bytecode = True
 import reading  # noqa: E402
-from harness import TREE, Lines  # noqa: E402
+from harness import TREE, Lines, split_new  # noqa: E402
 
 # Seconds after which an answer or an end hangs.
 LIMIT = 30
@@ -93,7 +93,7 @@ class Shell:
             ended = self.child.wait(limit)
         except subprocess.TimeoutExpired:
             raise Wrong(f"it doesn't end in {limit} seconds") from None
-        told = self.child.stderr.read()
+        told = split_new(self.child.stderr.read())[0]
         need((ended, said if callable(said) else told) == (status, said), f"it ended with {ended}, and said {told!r}")
         if callable(said):
             said(told)
@@ -131,7 +131,7 @@ class Case:
 
     def run(self, *words, text=b"", limit=LIMIT):
         ran = subprocess.run([self.rr, *words], input=text, capture_output=True, timeout=limit, env={}, cwd=self.room, check=False)
-        return ran.returncode, ran.stdout.decode(), ran.stderr.decode()
+        return ran.returncode, ran.stdout.decode(), split_new(ran.stderr)[0].decode()
 
     def disk(self, node):
         """What the folder of a node has."""
@@ -484,11 +484,13 @@ def failing_input_ends_a_watch(case):
 
 
 def people_see_a_prompt(case):
-    """On a terminal it is told what the shell runs over, and then there is a prompt before each line: that, the answers, and nothing else."""
-    for kind, line, answer in (("a new registry", b"claim a x\n", "claimed"), ("the registry", b"look a\n", "a bound 0 x")):
+    """On a terminal it is told what the shell runs over, and whether the registry is new. Then there is a prompt before each line: that, the
+    answers, and nothing else."""
+    new = f"rr: {case.folder}: a new registry, with --nodes 3"
+    for is_new, line, answer in (([new], b"claim a x\n", "claimed"), ([], b"look a\n", "a bound 0 x")):
         told = on_terminal(case, [line, b"quit\n"])
-        begin = f'rr: {kind} in {case.folder}, of 3 nodes; you are client 0, and ask node 0; "help" lists the commands, "quit" or Ctrl-D ends'
-        need(told.decode().splitlines() == [begin, f"> {answer}", "> "], f"on a terminal: {told!r}")
+        begin = f'rr: the registry in {case.folder}, of 3 nodes; you are client 0, and ask node 0; "help" lists the commands, "quit" or Ctrl-D ends'
+        need(told.decode().splitlines() == [begin, *is_new, f"> {answer}", "> "], f"on a terminal: {told!r}")
 
 
 def on_terminal(case, lines):
