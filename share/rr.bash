@@ -2,7 +2,7 @@
 _rr() {
   local current=$2 before=$3 words takes=nothing
   if [ "$COMP_CWORD" = 1 ]; then
-    COMPREPLY=($(compgen -W 'sim stats check random sweep draw run shell audit show verify export migrate help -h --help -V --version' -- "$current"))
+    COMPREPLY=($(compgen -W 'sim stats check random sweep draw run shell audit show verify export migrate replace help -h --help -V --version' -- "$current"))
     return
   fi
   case ${COMP_WORDS[1]} in
@@ -19,6 +19,7 @@ _rr() {
     verify) words='--json -h --help'; takes=folders ;;
     export) words='--list --json -h --help'; takes=folders ;;
     migrate) words='--node --nodes -h --help'; takes=folders ;;
+    replace) words='--node --without --tick --dry-run -h --help'; takes=folders ;;
     help) words=''; takes=commands ;;
   esac
   case ${COMP_WORDS[1]}:$before in
@@ -32,6 +33,9 @@ _rr() {
     random:--nodes) takes=nothing; words= ;;
     random:--seed) takes=nothing; words= ;;
     random:--steps) takes=nothing; words= ;;
+    replace:--node) takes=nothing; words= ;;
+    replace:--tick) takes=nothing; words= ;;
+    replace:--without) takes=nothing; words= ;;
     run:--dir) takes=folders; words= ;;
     run:--nodes) takes=nothing; words= ;;
     run:--script) takes=files; words= ;;
@@ -47,7 +51,7 @@ _rr() {
     shell:-c) takes=nothing; words= ;;
     sweep:--seed) takes=nothing; words= ;;
   esac
-  [ $takes != commands ] || words='sim stats check random sweep draw run shell audit show verify export migrate help'
+  [ $takes != commands ] || words='sim stats check random sweep draw run shell audit show verify export migrate replace help'
   COMPREPLY=($(compgen -W "$words" -- "$current"))
   case $current:$takes in
     -*) ;;

@@ -24,6 +24,7 @@ import subprocess
 import tempfile
 import threading
 import time
+from collections.abc import Iterable
 from typing import Any
 
 __all__ = [
@@ -46,7 +47,9 @@ class Binding:
 
 @dataclasses.dataclass(frozen=True)
 class Node:
-    """A node: whether it is up, and if so the facts on its disk, the commands it has seen decided, those left, and whom it suspects."""
+    """A node: whether it is up, and if so the facts on its disk, the commands it has seen decided, those left, and whom it suspects.
+
+    Of one that went down by itself, `failed` says why."""
 
     node: int
     up: bool
@@ -54,6 +57,7 @@ class Node:
     decided: int = 0
     left: int = 0
     suspects: frozenset[int] = frozenset()
+    failed: str | None = None
 
 
 class RegistryError(Exception):
@@ -112,16 +116,26 @@ class Names:
     """A registry that is open, asked as one client.
 
     folder: where it is kept; it's made if it isn't there. client: the number that owns what is claimed here, below 2**32. nodes: how many
-    nodes a new registry has, from 1 to 7, or 3 if left out. program: the program rr. timeout: the seconds after which a shell that says
-    nothing counts as hanging; it answers by itself in some five. Errors: Ended where the folder can't be opened, with the reason; OSError
-    where there is no such program.
+    nodes a new registry has, from 1 to 7, or 3 if left out. without: nodes that stay down, as their disks are broken; their folders aren't
+    touched, and the others have to be a majority. program: the program rr. timeout: the seconds after which a shell that says nothing
+    counts as hanging; it answers by itself in some five. Errors: Ended where the folder can't be opened, with the reason; OSError where
+    there is no such program.
     """
 
     def __init__(
-        self, folder: str | os.PathLike[str], *, client: int = 0, nodes: int | None = None, program: str = "rr", timeout: float = 30.0
+        self,
+        folder: str | os.PathLike[str],
+        *,
+        client: int = 0,
+        nodes: int | None = None,
+        without: Iterable[int] = (),
+        program: str = "rr",
+        timeout: float = 30.0,
     ) -> None:
         words = [program, "shell", "--json", "--dir", os.fspath(folder), "--client", str(client)]
         words += [] if nodes is None else ["--nodes", str(nodes)]
+        left_out = ",".join(map(str, sorted(set(without))))
+        words += ["--without", left_out] if left_out else []
         self.client = client
         self._timeout = timeout
         self._lock = threading.Lock()
@@ -282,6 +296,6 @@ def _binding(answer: Answer) -> Binding | None:
 
 def _node(answer: Answer) -> Node:
     if not answer["up"]:
-        return Node(answer["node"], False)
+        return Node(answer["node"], False, failed=answer.get("failed"))
     suspects = frozenset(node for node in range(7) if answer["suspects"] >> node & 1)
     return Node(answer["node"], True, answer["facts"], answer["decided"], answer["left"], suspects)
