@@ -46,7 +46,9 @@ class Shell:
         self.nodes = nodes
         self.room = tempfile.TemporaryDirectory(dir=words.folder)
         line = [words.rr, "shell", "--nodes", str(nodes), "--dir", f"{self.room.name}/nodes", "--client", "7", *more]
-        self.run = subprocess.Popen(line, stdin=subprocess.PIPE, stdout=subprocess.PIPE, text=True, bufsize=1)
+        # (standard error says that a registry is new, each time)
+        quiet = {"stderr": subprocess.DEVNULL, "text": True, "bufsize": 1}
+        self.run = subprocess.Popen(line, stdin=subprocess.PIPE, stdout=subprocess.PIPE, **quiet)
         self.count = 0
         self.ask("at 0")
         self.ask("claim a x")
