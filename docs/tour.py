@@ -60,7 +60,8 @@ TOUR = [
         "Folders that know each other",
         "A node whose folder is lost may have promised what it no longer knows. It isn't taken for a fresh one, nothing is written, and no folder "
         "is made. With the folder back the cluster goes on. With `--without 2` it goes on without the folder of node 2, which stays down until "
-        "the folder is back and `start 2` opens it.",
+        "the folder is back and `start 2` opens it. If its disk is lost for good, `rr replace` gives node 2 a new folder, by what the others have "
+        "decided, and the old one is refused from then on.",
         [
             "printf 'claim a x\\nclaim b\\n' | rr shell --nodes 3 --dir kin --client 7; ls kin",
             "mv kin/0 lost; echo 'claim a thief' | rr shell --nodes 3 --dir kin --client 9; ls kin",
@@ -69,6 +70,8 @@ TOUR = [
             "mv kin/1 aside; mv kin/2 kin/1; mv aside kin/2; echo 'look a' | rr shell --nodes 3 --dir kin",
             "mv kin/1 aside; mv kin/2 kin/1; mv aside kin/2; printf 'look a\\nclaim a thief\\n' | rr shell --nodes 3 --dir kin --client 9",
             "mv kin/2 lost; printf 'claim c\\nstart 2\\nstatus\\n' | rr shell --dir kin --client 7 --without 2 | sed 's/ facts.*//'; mv lost kin/2",
+            "mv kin/2 lost; rr replace kin --node 2 | sed 's/: [0-9]* /: N /'; rr verify kin | tail -n 1",
+            "mv kin/2 new; mv lost kin/2; echo 'look a' | rr shell --nodes 3 --dir kin",
         ],
     ),
     (
