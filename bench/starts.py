@@ -9,7 +9,8 @@ its folders itself, of three nodes:
 
 Counted are the seconds of a processor, user's and system's, since by the clock a busy machine tells nothing; a shell waits most of its time.
 Told are the medians and the least, and the quotients BEFORE / TODAY of both: 1 is as before, and less is slower. What else the machine does only
-adds. With --count it counts instructions by valgrind in place of seconds, which the load of a machine changes less."""
+adds. With --count it counts instructions by valgrind in place of seconds, which the load of a machine changes less. With --clock the seconds are
+those of the clock, of a quiet machine."""
 import argparse
 import os
 import pathlib
@@ -19,6 +20,7 @@ import shutil
 import statistics
 import subprocess
 import tempfile
+import time
 
 CLAIMS, STARTS = 400, 10
 
@@ -30,7 +32,9 @@ def read_words():
     words.add_argument("--names", type=int, default=200)
     words.add_argument("--turns", type=int, default=15)
     words.add_argument("--folder", default="/dev/shm")
-    words.add_argument("--count", action="store_true")
+    how = words.add_mutually_exclusive_group()
+    how.add_argument("--count", action="store_true")
+    how.add_argument("--clock", action="store_true")
     return words.parse_args()
 
 
@@ -38,17 +42,19 @@ def shell(program, folder, lines):
     return [program, "shell", "--nodes", "3", "--dir", folder, "--client", "7", *(word for line in lines for word in ("-c", line))]
 
 
-def taken(words, answers, is_counted):
-    """The processor seconds of a shell, or its instructions, once its answers are right."""
-    if is_counted:
+def taken(words, answers, asked):
+    """The seconds of a shell, or its instructions, once its answers are right."""
+    if asked.count:
         words = ["valgrind", "--tool=callgrind", "--callgrind-out-file=/dev/null", *words]
-    before = resource.getrusage(resource.RUSAGE_CHILDREN)
+    before, begun = resource.getrusage(resource.RUSAGE_CHILDREN), time.monotonic()
     ran = subprocess.run(words, capture_output=True, text=True, check=False, stdin=subprocess.DEVNULL)
-    after = resource.getrusage(resource.RUSAGE_CHILDREN)
+    after, ended = resource.getrusage(resource.RUSAGE_CHILDREN), time.monotonic()
     if ran.returncode or ran.stdout.split("\n")[:-1] != answers:
         raise SystemExit(f"bench/starts.py: {words[:9]} ended with {ran.returncode}, {ran.stdout[-200:]!r}, {ran.stderr[-200:]!r}")
-    if is_counted:
+    if asked.count:
         return float(re.search(r"Collected : (\d+)", ran.stderr)[1])
+    if asked.clock:
+        return ended - begun
     return after.ru_utime - before.ru_utime + after.ru_stime - before.ru_stime
 
 
@@ -60,7 +66,7 @@ class Program:
         self.kept, self.turn = f"{folder}/kept", f"{folder}/turn"
         self.took = {"start": [], "claims": []}
         names = [f"claim n{number} v" for number in range(asked.names)]
-        taken(shell(self.path, self.kept, names), ["claimed"] * asked.names, False)
+        taken(shell(self.path, self.kept, names), ["claimed"] * asked.names, asked)
 
     def take(self):
         start = sum(self.once(["look n0"], ["n0 bound 7 v"]) for _ in range(STARTS)) / STARTS
@@ -71,7 +77,7 @@ class Program:
     def once(self, lines, answers):
         shutil.rmtree(self.turn, ignore_errors=True)
         shutil.copytree(self.kept, self.turn)
-        return taken(shell(self.path, self.turn, lines), answers, self.asked.count)
+        return taken(shell(self.path, self.turn, lines), answers, self.asked)
 
 
 def main():
@@ -84,7 +90,7 @@ def main():
         for turn in range(asked.turns):
             for program in both if turn % 2 else both[::-1]:
                 program.take()
-        unit = "instructions" if asked.count else "processor seconds"
+        unit = "instructions" if asked.count else "seconds" if asked.clock else "processor seconds"
         for what in ("start", "claims"):
             for name, of in (("median", statistics.median), ("least", min)):
                 before, today = (of(program.took[what]) for program in both)
